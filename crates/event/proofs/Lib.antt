@@ -1,0 +1,4 @@
+mod Tests
+mod Turns
+mod Shapes
+mod Equal

@@ -1,0 +1,5 @@
+pub mod Span
+pub mod Row
+pub mod Words
+pub mod Value
+pub mod Laws

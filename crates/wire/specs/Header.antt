@@ -1,0 +1,38 @@
+-- The header of a document: four bytes.
+use mathlib.Core.Bool.{cond}
+use mathlib.Core.List.{List, [], _∷_}
+use Prim.Native.Nat.{ℕ, _+_, _*_}
+use lib.Dec.{ltb, eqb}
+use lib.ListN.{length, getD}
+use Rattle.wire.specs.Refusal.{headerShort, invalidMagic}
+use Rattle.wire.specs.declared.Header.{Header}
+use Rattle.wire.specs.declared.Header.the-variants as H
+
+-- four bytes as a u32, big-endian
+abbrev pub u32Of : ℕ → ℕ → ℕ → ℕ → ℕ
+u32Of a b c d = ((a * 256 + b) * 256 + c) * 256 + d
+
+-- those from a place on
+unfoldable pub u32At : List ℕ → ℕ → ℕ
+u32At s at = u32Of (getD s at 0) (getD s (at + 1) 0) (getD s (at + 2) 0) (getD s (at + 3) 0)
+
+-- "ABX" and a zero
+abbrev pub magicBytes : List ℕ
+magicBytes = 0x41 ∷ 0x42 ∷ 0x58 ∷ 0x00 ∷ []
+
+-- the same four bytes as a u32
+abbrev pub magic : ℕ
+magic = 0x4142_5800
+
+-- whether a document's first bytes are the header: passed, or a refusal with its number and detail
+pub data Check : Type 0 where
+  passed : Check
+  refused : ℕ → ℕ → Check
+
+unfoldable pub header : List ℕ → Check
+header s = cond (ltb (length s) 4) (refused headerShort 0) (cond (eqb (u32At s 0) magic) passed (refused invalidMagic (u32At s 0)))
+
+-- what the code's answer says
+abbrev pub headerOf : Header → Check
+headerOf H.Passed = passed
+headerOf (H.Refused r) = refused (r .number) (r .detail)

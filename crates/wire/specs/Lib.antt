@@ -1,0 +1,4 @@
+pub mod Token
+pub mod Refusal
+pub mod Header
+pub mod Laws
