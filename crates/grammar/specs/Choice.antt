@@ -1,0 +1,13 @@
+-- Proofs by the outcome of a test.
+use mathlib.Core.Bool.{Bool, true, false, cond}
+use mathlib.Core.Path.{_≡_, refl}
+
+-- by a test, with its equation
+abbrev pub byTest {ℓ} : {X : Type ℓ} (b : Bool) → (b ≡ true → X) → (b ≡ false → X) → X
+byTest true f g = f refl
+byTest false f g = g refl
+
+-- a property of a choice, by its two sides
+abbrev pub cond-by {ℓ κ} : {X : Type ℓ} (P : X → Type κ) (b : Bool) (x y : X) → (b ≡ true → P x) → (b ≡ false → P y) → P (cond b x y)
+cond-by P true x y f g = f refl
+cond-by P false x y f g = g refl

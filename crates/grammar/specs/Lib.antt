@@ -1,0 +1,14 @@
+pub mod Reader
+pub mod Grammar
+pub mod Document
+pub mod Scan
+pub mod Example
+pub mod Choice
+pub mod Kinds
+pub mod Laws
+pub mod Steps
+pub mod Added
+pub mod Said
+pub mod Outcomes
+pub mod Remaining
+pub mod Starred

@@ -1,0 +1,1 @@
+// The grammar of ABX: definitions and laws only.

@@ -1,0 +1,1 @@
+// The chunk reader: definitions and laws only.

@@ -1,0 +1,5 @@
+pub mod Trace
+pub mod Written
+pub mod RoundTrip
+pub mod Demand3
+pub mod Example

@@ -1,0 +1,1 @@
+// Demand 3 and the round trip: theorems only.

@@ -1,0 +1,1 @@
+// The writer: definitions and laws only.
