@@ -30,7 +30,7 @@ pub data Answer : Type 0 where
   value : ℕ → Content → Answer
   refused : ℕ → ℕ → Answer
 
--- 32 and 64 bits: Int and Long are signed, in two's complement; the others are bits
+-- a number of 32 bits, and one of 64: Int and Long are signed, in two's complement; the others are bits
 unfoldable pub word : ℕ → ℕ → Content
 word type b = cond (eqb type int) (signed (toZ w32 b)) (bits b)
 

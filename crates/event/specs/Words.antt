@@ -30,7 +30,7 @@ valueForms valued w Shape.Unknown = false
 unfoldable pub attributeForms : Bool → Bool → List ℕ → Bool
 attributeForms named valued w = named && valueForms valued w (shape (getD w 4 0))
 
--- the first eight words form a row; `inside` says that an attribute may stand here
+-- the first eight words form a row; `named` and `valued` are as above, `inside` says that an attribute may stand here
 unfoldable pub rowForms : Bool → Bool → Bool → List ℕ → Bool
 rowForms named valued inside w =
     cond (ltb (getD w 0 0) startTag) (zeros w 1 7)

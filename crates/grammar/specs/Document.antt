@@ -147,3 +147,8 @@ unfoldable pub lastPool : Reading → Option Pool
 lastPool (reads e n r) = lastPool r
 lastPool (ended p) = some p
 lastPool (stopped n d) = none
+
+-- lengths added up
+unfoldable pub total : List ℕ → ℕ
+total [] = 0
+total (n ∷ ns) = n + total ns

@@ -103,8 +103,8 @@ countedValue names (pair h l) = names
 unfoldable pub after : ℕ → Item → ℕ
 after names i = countedValue (countedName names (i .name)) (i .value)
 
--- the rows of an event, and how its reading ended: whole, with the place after it and whether the input ends
--- there too, so that an attribute might still follow; or short; or refused
+-- the rows of an event, and how its reading ended: whole, with the place after it and, of a start tag, whether
+-- the input ends there too, so that an attribute might still follow; or short; or refused
 pub data Items : Type 0 where
   item : Item → Items → Items
   whole : ℕ → Bool → Items

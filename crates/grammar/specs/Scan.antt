@@ -4,7 +4,7 @@ use mathlib.Core.Bool.{Bool, true, not, _&&_, cond}
 use mathlib.Core.Option.{Option, none, some}
 use mathlib.Core.List.{List, [], _∷_, _++_}
 use Prim.Native.Nat.{ℕ, suc, _+_, _*_}
-use lib.ListN.{getD}
+use lib.ListN.{length, getD}
 use lib.Dec.{ltb, leb}
 use Rattle.grammar.specs.Grammar.{Span, Ref, new, known, Value, Item, Items, item, whole, lacks, stops, most, countedName, after}
 use Rattle.grammar.specs.Document.{typeOf}
@@ -42,6 +42,11 @@ adds names (item i is) = addsItem names i ++ adds (after names i) is
 adds names (whole n e) = []
 adds names (lacks k) = []
 adds names (stops n d) = []
+
+-- the bytes of spans, counted
+unfoldable pub lengths : List Span → ℕ
+lengths [] = 0
+lengths (t ∷ ts) = t .len + lengths ts
 
 -- ---- rows as words
 
@@ -98,3 +103,15 @@ outcome finished (item i is) = outcome finished is
 outcome finished (whole n edge) = cond (edge && not finished) incomplete (complete n)
 outcome finished (lacks k) = cond finished (bad k 0) incomplete
 outcome finished (stops n d) = bad n d
+
+-- ---- what the first pass over an event measures
+
+-- the rows that were read, the names that join the pool and their bytes, and whether the event is complete
+pub record Measure : Type 0 where
+  pub rows : ℕ
+  pub added : ℕ
+  pub bytes : ℕ
+  pub result : Outcome
+
+unfoldable pub measure : Bool → ℕ → Items → Measure
+measure finished names is = record { rows = count is; added = length (adds names is); bytes = lengths (adds names is); result = outcome finished is }

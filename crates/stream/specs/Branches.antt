@@ -9,10 +9,10 @@ use lib.Seq.{slice}
 use lib.Dec.{ltb, eqb}
 use Rattle.wire.specs.Header.{u32At, magic}
 use Rattle.grammar.specs.Grammar.{Items, event}
-use Rattle.grammar.specs.Scan.{sound, adds, count, Outcome, complete, incomplete, bad, outcome}
+use Rattle.grammar.specs.Scan.{lengths, sound, adds, count, Outcome, complete, incomplete, bad, outcome}
 use Rattle.event.specs.Laws.{both}
 use Rattle.grammar.specs.Choice.{cond-by}
-use Rattle.stream.specs.Stream.{Stream, Lent, Left, Reply, needMore, end, done, unchanged, sizesBad, stateBad, checked, fitting, fed, feed, closed, finish, lengths, given, handOut, passed, byOutcome, nextFrom, nextHeader, next}
+use Rattle.stream.specs.Stream.{Stream, Lent, Left, Reply, needMore, end, done, unchanged, sizesBad, stateBad, checked, fitting, fed, feed, closed, finish, given, handOut, passed, byOutcome, nextFrom, nextHeader, next}
 
 -- a refusal leaves all as it was
 abbrev pub refusal : Stream → Lent → List ℕ → ℕ → ℕ → Left

@@ -8,7 +8,7 @@ use lib.ListN.{length, take, drop}
 use lib.Seq.{slice}
 use lib.Dec.{leb}
 use Rattle.event.specs.Row.{Event, rowsAt}
-use Rattle.grammar.specs.Document.{Pool, poolBytes, read, events, sizes}
+use Rattle.grammar.specs.Document.{Pool, poolBytes, read, events, sizes, total}
 use Rattle.stream.specs.Stream.{Stream, Lent, Left, Reply, took, done, gives, needMore, end, refused, feed, finish, next}
 
 -- ---- lists of calls
@@ -125,10 +125,6 @@ start r l = record { stream = r; lent = l; accepted = []; handed = []; header = 
 
 -- ---- what is claimed after every list of calls
 
-unfoldable pub total : List ℕ → ℕ
-total [] = 0
-total (n ∷ ns) = n + total ns
-
 -- the bytes of the header passed and of the events handed out
 unfoldable pub consumed : Trace → ℕ
 consumed t = t .header + total (take (length (t .handed)) (sizes (read (t .accepted))))
@@ -150,10 +146,10 @@ pub record Sound (t : Trace) : Type 0 where
 
 -- ---- what is claimed after a NeedMore
 
--- Of "NeedMore: exactly when unfinished, header or event incomplete, and the window isn't full" this is the half that no
--- NeedMore comes without need: no finish was accepted, a feed has room, and of the events that the grammar reads from the
+-- Of "NeedMore: exactly when unfinished, header or event incomplete, and the window isn't full" this is a part: no NeedMore
+-- holds back an event that could be handed out. No finish was accepted, a feed has room, and of the events that the grammar reads from the
 -- accepted bytes at most one is not handed out, which ends where they end (a start tag, since more attributes may follow).
--- The other half is `next` itself
+-- All of the sentence is `next` itself
 pub record Prompt (t : Trace) : Type 0 where
   pub unfinished : t .finished ≡ false
   pub feedable : waits (t .stream) < length (t .lent .window)

@@ -15,7 +15,8 @@ use Rattle.grammar.specs.Choice.{byTest}
 use Rattle.grammar.specs.Laws.{part-append}
 use Rattle.grammar.specs.Added.{these, AllIn, bytesAt-length}
 use Rattle.grammar.specs.Said.{Finds}
-use Rattle.stream.specs.Stream.{lengths, pairs, joined}
+use Rattle.grammar.specs.Scan.{lengths}
+use Rattle.stream.specs.Stream.{pairs, joined}
 
 pub poolBytes-append : (a b : Pool) → poolBytes (a ++ b) ≡ poolBytes a + poolBytes b
 poolBytes-append [] b = omega arith

@@ -12,17 +12,17 @@ use lib.Dec.{ltb, eqb}
 use Rattle.wire.specs.Header.{u32At, magic}
 use Rattle.event.specs.Row.{Event, rowsAt}
 use Rattle.grammar.specs.Grammar.{Span, Items, event}
-use Rattle.grammar.specs.Document.{Pool, all, rowsOf, poolOf, Reading, read, readF, events, sizes}
-use Rattle.grammar.specs.Scan.{sound, complete, outcome, adds, count, words}
+use Rattle.grammar.specs.Document.{Pool, all, rowsOf, poolOf, Reading, read, readF, events, sizes, total}
+use Rattle.grammar.specs.Scan.{lengths, sound, complete, outcome, adds, count, words}
 use Rattle.grammar.specs.Choice.{byTest}
 use Rattle.grammar.specs.Laws.{Agree, agree-event}
 use Rattle.grammar.specs.Steps.{chain, chain-snoc, events-chain, sizes-chain, read-passed, readS, Open, Reads-on}
 use Rattle.grammar.specs.Outcomes.{complete-reads-on}
 use Rattle.grammar.specs.Added.{pool-adds, adds-in}
 use Rattle.grammar.specs.Said.{rows-say, words-length}
-use Rattle.stream.specs.Stream.{Stream, Lent, Created, created, fresh, sizesBad, create, fitting, fed, feed, finish, given, next, nextFrom, lengths, pairs, joined, passed}
+use Rattle.stream.specs.Stream.{Stream, Lent, Created, created, fresh, sizesBad, create, fitting, fed, feed, finish, given, next, nextFrom, pairs, joined, passed}
 use Rattle.stream.specs.Branches.{feed-by, finish-by, next-by, nextFrom-by}
-use Rattle.stream.specs.Calls.{Call, call-feed, call-next, call-finish, Trace, acceptedBy, handedBy, headerBy, endedBy, afterFeed, afterNext, afterFinish, step, run, start, total, consumed, Sound}
+use Rattle.stream.specs.Calls.{Call, call-feed, call-next, call-finish, Trace, acceptedBy, handedBy, headerBy, endedBy, afterFeed, afterNext, afterFinish, step, run, start, consumed, Sound}
 use Rattle.stream.specs.Held.{Held, Entry, held-adds, held-finds}
 
 pub total-snoc : (ns : List ℕ) (n : ℕ) → total (ns ++ (n ∷ [])) ≡ total ns + n

@@ -13,13 +13,13 @@ use Rattle.wire.specs.Header.{u32At, magic, header}
 use Rattle.event.specs.Row.{Event}
 use Rattle.grammar.specs.Grammar.{Span, Items, event}
 use Rattle.grammar.specs.Document.{Pool, poolBytes, all, poolOf, read, events, lastPool}
-use Rattle.grammar.specs.Scan.{sound, adds, count, outcome, complete}
+use Rattle.grammar.specs.Scan.{lengths, sound, adds, count, outcome, complete}
 use Rattle.grammar.specs.Choice.{byTest}
 use Rattle.grammar.specs.Laws.{agree-event}
 use Rattle.grammar.specs.Steps.{chain, readS}
 use Rattle.grammar.specs.Added.{these, AllIn, adds-in, grown, bytesAt-length, pool-adds}
 use Rattle.grammar.specs.Remaining.{Tells, tells-own, tells-events, tells-rest, Comes, comes, none-comes, count-rows}
-use Rattle.stream.specs.Stream.{Stream, Lent, Left, Reply, gives, end, created, sizesBad, stateBad, checked, create, fitting, fed, feed, finish, lengths, given, handOut, passed, byOutcome, nextFrom, nextHeader, next}
+use Rattle.stream.specs.Stream.{Stream, Lent, Left, Reply, gives, end, created, sizesBad, stateBad, checked, create, fitting, fed, feed, finish, given, handOut, passed, byOutcome, nextFrom, nextHeader, next}
 use Rattle.stream.specs.Branches.{feed-by, finish-by, next-by, nextFrom-by}
 use Rattle.stream.specs.Calls.{Call, call-feed, call-next, call-finish, Trace, handedBy, finishedBy, afterFeed, afterNext, afterFinish, step, run, start, Room, Delivers}
 use Rattle.stream.specs.Held.{poolBytes-append}

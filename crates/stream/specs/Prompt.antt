@@ -1,4 +1,4 @@
--- A NeedMore comes only where more is needed.
+-- No NeedMore holds back an event that could be handed out.
 use mathlib.Core.Bool.{Bool, false, true≢false}
 use mathlib.Core.List.{List, [], _∷_, _++_, append-nil}
 use mathlib.Core.Path.{_≡_, refl, sym, ap, _∙_}
@@ -11,14 +11,14 @@ use lib.Dec.{ltb}
 use Rattle.wire.specs.Header as Header
 use Rattle.event.specs.Row.{Event}
 use Rattle.grammar.specs.Grammar.{event}
-use Rattle.grammar.specs.Document.{all, Reading, reads, ended, stopped, read, events, sizes}
+use Rattle.grammar.specs.Document.{all, Reading, reads, ended, stopped, read, events, sizes, total}
 use Rattle.grammar.specs.Choice.{byTest}
 use Rattle.grammar.specs.Steps.{chain, events-chain}
 use Rattle.grammar.specs.Outcomes.{Last, incomplete-last}
 use Rattle.grammar.specs.Scan.{sound}
 use Rattle.stream.specs.Stream.{Stream, Lent, Left, Reply, needMore, end, created, sizesBad, create, given, passed, nextFrom, next}
 use Rattle.stream.specs.Branches.{next-by, nextFrom-by}
-use Rattle.stream.specs.Calls.{Call, call-next, Trace, handedBy, headerBy, afterNext, step, run, start, total, waits, Prompt}
+use Rattle.stream.specs.Calls.{Call, call-next, Trace, handedBy, headerBy, afterNext, step, run, start, waits, Prompt}
 use Rattle.stream.specs.Invariant.{Inv, Holds, resume, open-nil, total-snoc, sound-all, passed-on, passing, few-accepted, holds-start, created-fresh, holds-created}
 use Rattle.stream.specs.Lively.{run-sizes, run-finished, sizes-stay-good}
 

@@ -9,9 +9,10 @@ use Rattle.wire.specs.Header.{u32At, magic}
 use Rattle.wire.specs.Refusal.{headerShort, invalidMagic, rowsFull, poolFull, namesFull, windowFull, badSize, alreadyFinished, badState}
 use Rattle.grammar.specs.Grammar.{Span, Items, event}
 use Rattle.grammar.specs.Document.{bytesAt}
-use Rattle.grammar.specs.Scan.{sound, adds, count, words, Outcome, complete, incomplete, bad, outcome}
+use Rattle.grammar.specs.Scan.{sound, adds, lengths, count, words, Outcome, complete, incomplete, bad, outcome}
 
--- the bytes of the window from `start` to `end` wait; the pool table has `names` pairs, the name store `bytes` bytes
+-- the bytes of the window from `start` to `end` wait; the pool table has `names` pairs, the name store `bytes` bytes; whether
+-- the header was passed, and whether a finish said that no more will come
 pub record Stream : Type 0 where
   pub start : ℕ
   pub end : ℕ
@@ -110,11 +111,6 @@ unfoldable pub finish : Stream → Lent → Left
 finish r l = checked r l [] (cond (r .finished) (unchanged r l [] (refused alreadyFinished 0)) (unchanged (closed r) l [] done))
 
 -- ---- next: an event that was read whole is handed out, where there is room, and its names are kept
-
--- the bytes of spans, counted
-unfoldable pub lengths : List Span → ℕ
-lengths [] = 0
-lengths (t ∷ ts) = t .len + lengths ts
 
 -- the pairs of new names whose bytes are appended to the name store from a place on
 unfoldable pub pairs : ℕ → List Span → List ℕ

@@ -1,0 +1,1 @@
+// The slice reader. So far its definitions alone, in specs/.
