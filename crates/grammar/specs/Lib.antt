@@ -12,5 +12,3 @@ pub mod Said
 pub mod Outcomes
 pub mod Remaining
 pub mod Starred
-pub mod Answers
-pub mod Tally

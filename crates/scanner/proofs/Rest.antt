@@ -1,0 +1,240 @@
+-- The attributes from a place on, and what is measured of them: a turn of the loop for each attribute.
+use mathlib.Core.Bool.{Bool, true, false}
+use mathlib.Core.Option.{Option, none, some}
+use mathlib.Core.List.{List, [], _++_}
+use mathlib.Core.Path.{_≡_, refl, sym, ap, _∙_}
+use Prim.Native.Nat.{ℕ, zero, suc, _+_, _≤_, _<_}
+use native.Mathlib.Omega.{arith}
+use borrow.Author.Tests.{lt-ltb, le-ltb, eq-eqb, ne-eqb}
+use lib.ListN.{length, getD, length-append}
+use Rattle.wire.specs.Token as Token
+use Rattle.event.specs.declared.Shape.{Shape}
+use Rattle.wire.specs.Token.{command}
+use Rattle.grammar.specs.Reader.{got, short, refused}
+use Rattle.grammar.specs.Grammar.{Ref, new, known, Value, Item, Items, item, whole, lacks, stops, after, attribute, first, attributesF, event}
+use Rattle.grammar.specs.Laws.{RefFits, NameFits, ValueFits, ItemFits, attributesF-more, good-attribute, good-first}
+use Rattle.grammar.specs.Scan.{sound, Outcome, addsItem, adds, count, lengths, outcome, Measure, measure}
+use Rattle.scanner.specs.Tally.{limit, RefSmall, NameSmall, ValueSmall, ItemSmall, Bounded, Counts, plus}
+use Rattle.scanner.specs.declared.Pool.{Pool}
+use Rattle.scanner.specs.declared.Tally.{Tally}
+use Rattle.scanner.proofs.Tallies.{lengths-append, item-adds}
+
+module _ (sound : ℕ → Bool) (s : List ℕ) where
+  abbrev pub rest : ℕ → ℕ → Items
+  rest names at = attributesF sound (length s) names s at
+
+  end-of : (f names at : ℕ) → length s ≤ at → attributesF sound f names s at ≡ whole at true
+  unfolding attributesF
+  end-of zero names at h = refl
+  end-of (suc f) names at h = rw (le-ltb at (length s) h)
+
+  pub rest-end : (names at : ℕ) → length s ≤ at → rest names at ≡ whole at true
+  rest-end names at h = end-of (length s) names at h
+
+  module _ (names at : ℕ) (h : at < length s) where
+    other-of : (f : ℕ) → 0 < f → (command (getD s at 0) ≡ Token.attribute → ⊥) → attributesF sound f names s at ≡ whole at false
+    unfolding attributesF
+    other-of zero p k = absurd (omega arith)
+    other-of (suc f) p k = rw (lt-ltb at (length s) h, ne-eqb _ _ k)
+
+    pub rest-other : (command (getD s at 0) ≡ Token.attribute → ⊥) → rest names at ≡ whole at false
+    rest-other k = other-of (length s) (omega arith) k
+
+    module _ (k : command (getD s at 0) ≡ Token.attribute) where
+      pub rest-more : (i : Item) (n : ℕ) → attribute sound names s at ≡ got i n → rest names at ≡ item i (rest (after names i) n)
+      rest-more i n e = attributesF-more sound s (length s) names at i n h (omega arith) (eq-eqb _ _ k) e
+
+      short-of : (f j : ℕ) → 0 < f → attribute sound names s at ≡ short j → attributesF sound f names s at ≡ lacks j
+      unfolding attributesF
+      short-of zero j p e = absurd (omega arith)
+      short-of (suc f) j p e = rw (lt-ltb at (length s) h, eq-eqb _ _ k, e)
+
+      pub rest-short : (j : ℕ) → attribute sound names s at ≡ short j → rest names at ≡ lacks j
+      rest-short j e = short-of (length s) j (omega arith) e
+
+      stop-of : (f n d : ℕ) → 0 < f → attribute sound names s at ≡ refused n d → attributesF sound f names s at ≡ stops n d
+      unfolding attributesF
+      stop-of zero n d p e = absurd (omega arith)
+      stop-of (suc f) n d p e = rw (lt-ltb at (length s) h, eq-eqb _ _ k, e)
+
+      pub rest-stops : (n d : ℕ) → attribute sound names s at ≡ refused n d → rest names at ≡ stops n d
+      rest-stops n d e = stop-of (length s) n d (omega arith) e
+
+-- ---- what is measured
+
+abbrev pub asTold : Tally → Outcome → Measure
+asTold t o = record { rows = t .rows; added = t .added; bytes = t .bytes; result = o }
+
+pub measure-more : (finished : Bool) (t r : Tally) (i : Item) (is : Items) → Counts i t r
+    → plus r (measure finished (r .pool .names) is) ≡ plus t (measure finished (t .pool .names) (item i is))
+unfolding plus measure count adds outcome
+measure-more finished t r i is c =
+    let rows : r .rows + count is ≡ t .rows + suc (count is) = omega (arith, c .rows-more) in
+    let added : r .added + length (adds (r .pool .names) is) ≡ t .added + length (adds (t .pool .names) (item i is)) =
+    rw (c .names-are, length-append) (omega (arith, c .added-more)) in
+    let bytes : r .bytes + lengths (adds (r .pool .names) is) ≡ t .bytes + lengths (adds (t .pool .names) (item i is)) =
+    rw (c .names-are, lengths-append) (omega (arith, c .bytes-more)) in
+    λ k. record { rows = rows k; added = added k; bytes = bytes k; result = outcome finished is }
+
+-- where nothing more is read
+module _ (finished : Bool) (t : Tally) where
+  abbrev done : Outcome → Measure
+  done o = record { rows = t .rows + 0; added = t .added + 0; bytes = t .bytes + 0; result = o }
+
+  done-is : (o : Outcome) → asTold t o ≡ done o
+  done-is o =
+      let rows : t .rows ≡ t .rows + 0 = omega arith in
+      let added : t .added ≡ t .added + 0 = omega arith in
+      let bytes : t .bytes ≡ t .bytes + 0 = omega arith in
+      λ k. record { rows = rows k; added = added k; bytes = bytes k; result = o }
+
+  pub measure-whole : (n : ℕ) (e : Bool) → asTold t (outcome finished (whole n e)) ≡ plus t (measure finished (t .pool .names) (whole n e))
+  unfolding plus measure count adds lengths
+  measure-whole n e = done-is (outcome finished (whole n e))
+
+  pub measure-lacks : (j : ℕ) → asTold t (outcome finished (lacks j)) ≡ plus t (measure finished (t .pool .names) (lacks j))
+  unfolding plus measure count adds lengths
+  measure-lacks j = done-is (outcome finished (lacks j))
+
+  pub measure-stops : (n d : ℕ) → asTold t (outcome finished (stops n d)) ≡ plus t (measure finished (t .pool .names) (stops n d))
+  unfolding plus measure count adds lengths
+  measure-stops n d = done-is (outcome finished (stops n d))
+
+-- ---- spans of an input that is not too long are small
+
+module _ (l : ℕ) (h : l ≤ limit) where
+  ref-small : (names : ℕ) (r : Ref) → RefFits l names r → RefSmall r
+  ref-small names (new t) f = omega arith
+  ref-small names (known i) f = tt
+
+  name-small-of : (names : ℕ) (o : Option Ref) → NameFits l names o → NameSmall o
+  name-small-of names none f = tt
+  name-small-of names (some r) f = ref-small names r f
+
+  value-small-of : (names : ℕ) (g : Shape) (v : Value) → ValueFits l names g v → ValueSmall v
+  value-small-of names g Value.nothing f = tt
+  value-small-of names g Value.empty f = tt
+  value-small-of names g (Value.span t) f = tt
+  value-small-of names g (Value.interned r) f = ref-small names r (f .0)
+  value-small-of names g (Value.word w) f = tt
+  value-small-of names g (Value.pair a b) f = tt
+
+  pub fits-small : (names : ℕ) (i : Item) → ItemFits l names i → ItemSmall i
+  fits-small names i f = record { name-small = name-small-of names (i .name) (f .name-fits); value-small = value-small-of _ _ (i .value) (f .value-fits) }
+
+-- ---- the loop: what is measured from a place on, after a tally
+
+module _ (finished : Bool) (s table : List ℕ) where
+  abbrev pub Remains : Tally → ℕ → Measure
+  Remains t at = plus t (measure finished (t .pool .names) (rest (sound (t .pool .kept) table (t .pool .stored)) s (t .pool .names) at))
+
+  rest-same : (n k k′ d d′ m m′ : ℕ) → k ≡ k′ → d ≡ d′ → m ≡ m′ → rest (sound k table d) s m n ≡ rest (sound k′ table d′) s m′ n
+  rest-same n k k′ d d′ m m′ e f g = rw (e, f, g)
+
+  module _ (t : Tally) (at : ℕ) where
+    abbrev here : ℕ → Bool
+    here = sound (t .pool .kept) table (t .pool .stored)
+
+    pub remains-end : length s ≤ at → asTold t (outcome finished (whole at true)) ≡ Remains t at
+    remains-end h = rw (rest-end here s (t .pool .names) at h) (measure-whole finished t at true)
+
+    module _ (h : at < length s) where
+      pub remains-other : (command (getD s at 0) ≡ Token.attribute → ⊥) → asTold t (outcome finished (whole at false)) ≡ Remains t at
+      remains-other k = rw (rest-other here s (t .pool .names) at h k) (measure-whole finished t at false)
+
+      module _ (k : command (getD s at 0) ≡ Token.attribute) where
+        pub remains-short : (j : ℕ) → attribute here (t .pool .names) s at ≡ short j → asTold t (outcome finished (lacks j)) ≡ Remains t at
+        remains-short j e = rw (rest-short here s (t .pool .names) at h k j e) (measure-lacks finished t j)
+
+        pub remains-stops : (n d : ℕ) → attribute here (t .pool .names) s at ≡ refused n d → asTold t (outcome finished (stops n d)) ≡ Remains t at
+        remains-stops n d e = rw (rest-stops here s (t .pool .names) at h k n d e) (measure-stops finished t n d)
+
+        module _ (i : Item) (n : ℕ) (e : attribute here (t .pool .names) s at ≡ got i n) (r : Tally) (c : Counts i t r) where
+          pub remains-more : Remains r n ≡ Remains t at
+          remains-more =
+              ap (λ (is : Items). plus r (measure finished (r .pool .names) is)) (rest-same n _ _ _ _ _ _ (c .kept-stays) (c .stored-stays) (c .names-are))
+              ∙ measure-more finished t r i (rest here s (after (t .pool .names) i) n) c
+              ∙ ap (λ (is : Items). plus t (measure finished (t .pool .names) is)) (sym (rest-more here s (t .pool .names) at h k i n e))
+
+    -- the bounds
+    module _ (h : at ≤ length s) (l : length s ≤ limit) (i : Item) (n : ℕ) (e : attribute here (t .pool .names) s at ≡ got i n) where
+      abbrev fine : (at + 1 ≤ n) × (n ≤ length s) × ItemFits (length s) (t .pool .names) i × (attribute here (t .pool .names) (s ++ []) at ≡ got i n)
+      fine = rw e at (good-attribute s [] here (t .pool .names) .law at h)
+
+      pub attribute-small : ItemSmall i
+      attribute-small = fits-small (length s) l (t .pool .names) i (fine .2)
+
+      pub attribute-moves : at < n
+      attribute-moves = omega (arith, fine .0)
+
+      pub attribute-within : n ≤ length s
+      attribute-within = fine .1
+
+      pub bounded-more : (r : Tally) → Bounded at t → Counts i t r → Bounded n r
+      bounded-more r b c =
+          let few = item-adds (t .pool .names) i attribute-small in
+          record {
+            rows-bounded = omega (arith, fine .0, b .rows-bounded, c .rows-more);
+            added-bounded = omega (arith, few .0, b .added-bounded, c .added-more, c .rows-more);
+            bytes-bounded = omega (arith, few .1, b .bytes-bounded, c .bytes-more, c .rows-more);
+          }
+
+-- ---- the whole event
+
+abbrev pub none-yet : Pool → Tally
+none-yet p = record { pool = p; rows = 0; added = 0; bytes = 0 }
+
+plus-none : (p : Pool) (m : Measure) → plus (none-yet p) m ≡ m
+unfolding plus
+plus-none p m =
+    let rows : 0 + m .rows ≡ m .rows = omega arith in
+    let added : 0 + m .added ≡ m .added = omega arith in
+    let bytes : 0 + m .bytes ≡ m .bytes = omega arith in
+    λ k. record { rows = rows k; added = added k; bytes = bytes k; result = m .result }
+
+module _ (finished : Bool) (s table : List ℕ) (p : Pool) where
+  abbrev valid : ℕ → Bool
+  valid = sound (p .kept) table (p .stored)
+
+  abbrev pub Whole : Measure
+  Whole = measure finished (p .names) (event valid (p .names) s)
+
+  pub whole-short : (j : ℕ) → first valid (p .names) s 0 ≡ short j → asTold (none-yet p) (outcome finished (lacks j)) ≡ Whole
+  unfolding event
+  whole-short j e = rw e (measure-lacks finished (none-yet p) j ∙ plus-none p _)
+
+  pub whole-stops : (n d : ℕ) → first valid (p .names) s 0 ≡ refused n d → asTold (none-yet p) (outcome finished (stops n d)) ≡ Whole
+  unfolding event
+  whole-stops n d e = rw e (measure-stops finished (none-yet p) n d ∙ plus-none p _)
+
+  module _ (i : Item) (n : ℕ) (e : first valid (p .names) s 0 ≡ got i n) (l : length s ≤ limit) where
+    abbrev first-fine : (0 + 1 ≤ n) × (n ≤ length s) × ItemFits (length s) (p .names) i × (first valid (p .names) (s ++ []) 0 ≡ got i n)
+    first-fine = rw e at (good-first s [] valid (p .names) .law 0 (omega arith))
+
+    pub first-small : ItemSmall i
+    first-small = fits-small (length s) l (p .names) i (first-fine .2)
+
+    pub first-within : n ≤ length s
+    first-within = first-fine .1
+
+    module _ (r : Tally) (c : Counts i (none-yet p) r) where
+      pub first-bounded : Bounded n r
+      first-bounded =
+          let few = item-adds (p .names) i first-small in
+          record {
+            rows-bounded = omega (arith, first-fine .0, c .rows-more);
+            added-bounded = omega (arith, few .0, c .added-more, c .rows-more);
+            bytes-bounded = omega (arith, few .1, c .bytes-more, c .rows-more);
+          }
+
+      pub whole-single : (i .kind ≡ Token.startTag → ⊥) → asTold r (outcome finished (whole n false)) ≡ Whole
+      unfolding event
+      whole-single k = rw (e, ne-eqb _ _ k) (measure-whole finished r n false ∙ measure-more finished (none-yet p) r i (whole n false) c ∙ plus-none p _)
+
+      pub whole-tag : i .kind ≡ Token.startTag → Remains finished s table r n ≡ Whole
+      unfolding event
+      whole-tag k =
+          rw (e, eq-eqb _ _ k)
+          (ap (λ (is : Items). plus r (measure finished (r .pool .names) is)) (rest-same finished s table n _ _ _ _ _ _ (c .kept-stays) (c .stored-stays) (c .names-are))
+          ∙ measure-more finished (none-yet p) r i (rest valid s (after (p .names) i) n) c
+          ∙ plus-none p _)
