@@ -99,10 +99,20 @@ edge l replied events =
       shows = record { replied = took 10 ∷ needMore ∷ done ∷ replied; events = events };
     }
 
+-- a refused event is refused again: its bytes still wait, and the header counts as not passed
+abbrev again : Case
+again =
+    record {
+      lent = lent;
+      calls = call-feed (H ++ (0x0F ∷ [])) ∷ next ∷ next ∷ call-finish ∷ next ∷ [];
+      shows = record { replied = took 5 ∷ refused 9 15 ∷ refused 9 15 ∷ done ∷ refused 9 15 ∷ []; events = [] };
+    }
+
 unfoldable pub cases : List Case
 cases =
     pieces
     ∷ full
+    ∷ again
     ∷ edge lent (gives 1 ∷ end ∷ []) ((bare Token.startTag p ∷ []) ∷ [])
     ∷ edge (narrow [] []) (refused 11 0 ∷ refused 11 0 ∷ []) []
     ∷ edge (narrow (0 ∷ 0 ∷ []) []) (refused 12 0 ∷ refused 12 0 ∷ []) []
