@@ -12,3 +12,4 @@ pub mod Said
 pub mod Outcomes
 pub mod Remaining
 pub mod Starred
+pub mod Stores

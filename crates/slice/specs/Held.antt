@@ -15,6 +15,7 @@ use Rattle.grammar.specs.Scan.{sound}
 use Rattle.grammar.specs.Choice.{byTest}
 use Rattle.grammar.specs.Added.{these, AllIn}
 use Rattle.grammar.specs.Said.{Finds}
+use Rattle.grammar.specs.Stores as Stores
 use Rattle.slice.specs.Slice.{pairs}
 
 -- entry i's pair names these bytes of the document
@@ -95,12 +96,7 @@ held-finds document pool names table h i k =
 
 -- every name of a pool that is held is at hand
 pub sound-all : (document : List ℕ) (pool : Pool) (names : ℕ) (table : List ℕ) → Held document pool names table → sound names table (length document) ≡ all
-unfolding sound
-sound-all document pool names table h = fun-ext (λ i.
-    byTest (ltb i names)
-    (λ b. let k : Entry document table i (getD pool i []) = h .entry i (ltb-true i names b) in
-    rw (b, le-leb (getD table (2 * i) 0 + getD table (2 * i + 1) 0) (length document) (omega arith)))
-    (λ b. rw b))
+sound-all document pool names table h = Stores.sound-all names (length document) table (λ i k. h .entry i k .inside)
 
 -- a table of the pool's pairs alone, and the new ones after them, holds the pool with the new names
 pub held-with : (document : List ℕ) (base : ℕ) (ts : List Span) (pool : Pool) (names : ℕ) (table : List ℕ) → base ≤ length document

@@ -15,6 +15,7 @@ use Rattle.grammar.specs.Choice.{byTest}
 use Rattle.grammar.specs.Laws.{part-append}
 use Rattle.grammar.specs.Added.{these, AllIn, bytesAt-length}
 use Rattle.grammar.specs.Said.{Finds}
+use Rattle.grammar.specs.Stores.{sets-append}
 use Rattle.grammar.specs.Scan.{lengths}
 use Rattle.stream.specs.Stream.{pairs, joined}
 
@@ -80,10 +81,6 @@ held-add pool names bytes table store b h ht hs =
           rw (c, h .counts, getD-append-seam pool b [] [], ← h .counts)
           (record { inside = rw (e₀, e₁) (omega arith); reads-as = rw (e₀, e₁) (sets-there store b bytes hs) }));
     }
-
-sets-append : (l : List ℕ) (i : ℕ) (a b : List ℕ) → sets l i (a ++ b) ≡ sets (sets l i a) (i + length a) b
-sets-append l i [] b = rw add-zero
-sets-append l i (x ∷ a) b = sets-append (set l i x) (suc i) a b ∙ ap (λ (k : ℕ). sets (sets (set l i x) (suc i) a) k b) (omega arith)
 
 held-cast : (p p′ : Pool) (n n′ b b′ : ℕ) (t t′ s s′ : List ℕ) → p ≡ p′ → n ≡ n′ → b ≡ b′ → t ≡ t′ → s ≡ s′ → Held p n b t s → Held p′ n′ b′ t′ s′
 held-cast p p′ n n′ b b′ t t′ s s′ e₁ e₂ e₃ e₄ e₅ h = rw (← e₁, ← e₂, ← e₃, ← e₄, ← e₅) h

@@ -20,6 +20,7 @@ use Rattle.grammar.specs.Steps.{chain, chain-snoc, events-chain, sizes-chain, r
 use Rattle.grammar.specs.Outcomes.{complete-reads-on}
 use Rattle.grammar.specs.Added.{pool-adds, adds-in}
 use Rattle.grammar.specs.Said.{rows-say, words-length}
+use Rattle.grammar.specs.Stores as Stores
 use Rattle.stream.specs.Stream.{Stream, Lent, Created, created, fresh, sizesBad, create, fitting, fed, feed, finish, given, next, nextFrom, pairs, joined, passed}
 use Rattle.stream.specs.Branches.{feed-by, finish-by, next-by, nextFrom-by}
 use Rattle.stream.specs.Calls.{Call, call-feed, call-next, call-finish, Trace, acceptedBy, handedBy, headerBy, endedBy, afterFeed, afterNext, afterFinish, step, run, start, consumed, Sound}
@@ -151,12 +152,7 @@ holds-finish t h =
 
 -- every name of a pool that is held is at hand
 pub sound-all : (pool : Pool) (names bytes : ℕ) (table store : List ℕ) → Held pool names bytes table store → sound names table (length store) ≡ all
-unfolding sound
-sound-all pool names bytes table store h = fun-ext (λ i.
-    byTest (ltb i names)
-    (λ b. let k : Entry bytes table store i (getD pool i []) = h .entry i (ltb-true i names b) in
-    rw (b, le-leb (getD table (2 * i) 0 + getD table (2 * i + 1) 0) (length store) (omega arith)))
-    (λ b. rw b))
+sound-all pool names bytes table store h = Stores.sound-all names (length store) table (λ i k. omega (arith, h .entry i k .inside, h .store-fits))
 
 -- an event is handed out: `p` is the invariant with the header passed
 handed-out : (t : Trace) (rows : List ℕ) (from : ℕ) (p : Inv (passed (t .stream) from) (t .lent) (t .accepted) (t .handed) 4 (t .ended)) (is : Items) (n : ℕ)

@@ -10,6 +10,7 @@ use lib.ListN.{length, set, length-append}
 use lib.Seq.{sets, length-sets}
 use Rattle.event.specs.Row.{Row, Event}
 use Rattle.grammar.specs.Document.{Pool}
+use Rattle.grammar.specs.Stores.{sets-append}
 use Rattle.writer.specs.Encode.{rowBytes, keepRow, rowsBytes, keepRows}
 use Rattle.writer.specs.Faults.{group}
 use Rattle.writer.specs.Writer.{Writer, Lent, wrote, Left, poolAt, roomRefusal, ends, rowsRefusal, rowsPairs, unless, advanced, append, write}
@@ -38,10 +39,6 @@ refusal-append l bad (r ∷ q ∷ a) b at pool n h k =
     rw (parts .0, parts .1)
     (refusal-append l bad (q ∷ a) b (at + length (rowBytes pool r)) (keepRow pool r) n (parts .2)
     (rw (length-append (rowBytes pool r) (rowsBytes (keepRow pool r) (q ∷ a)), ← add-assoc at (length (rowBytes pool r))) at k))
-
-sets-append : (s : List ℕ) (at : ℕ) (a b : List ℕ) → sets s at (a ++ b) ≡ sets (sets s at a) (at + length a) b
-sets-append s at [] b = rw add-zero
-sets-append s at (x ∷ a) b = sets-append (set s at x) (suc at) a b ∙ ap (λ (k : ℕ). sets (sets (set s at x) (suc at) a) k b) (omega arith)
 
 module _ (es : List Event) (w w₁ : Writer) (l : Lent) (a b : List Row) (h : Wrote es w l) (e : write true w l a .reply ≡ wrote w₁) where
   abbrev l₁ : Lent
