@@ -1,7 +1,7 @@
 -- Equal rows: two rows of one type by that type's shape, and two rows of one kind and type.
 use mathlib.Core.Bool.{_&&_}
 use mathlib.Core.List.{List}
-use mathlib.Core.Path.{_≡_, refl, sym, ap, _∙_}
+use mathlib.Core.Path.{_≡_, sym, ap, _∙_}
 use Prim.Native.Nat.{ℕ, _≤_}
 use borrow.Author.Tests.{le-leb, eq-eqb}
 use lib.ListN.{length, getD}

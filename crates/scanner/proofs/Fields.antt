@@ -1,5 +1,5 @@
 -- Strings and blobs, by what their length field gave.
-use mathlib.Core.Bool.{Bool, true, false, cond, false≢true}
+use mathlib.Core.Bool.{true, false}
 use mathlib.Core.List.{List}
 use mathlib.Core.Path.{_≡_, refl, sym, _∙_}
 use Prim.Native.Nat.{ℕ, _+_, _-_, _≤_, _<_}
@@ -11,7 +11,7 @@ use Rattle.wire.specs.Header.{u32Of, u32At}
 use Rattle.wire.specs.Refusal.{stringShort, bytesShort, invalidUtf8}
 use Rattle.utf8.specs.Utf8.{wellFormed}
 use Rattle.grammar.specs.Reader.{got, short, refused}
-use Rattle.grammar.specs.Grammar.{Span, u16, raw, utf8, string, blob}
+use Rattle.grammar.specs.Grammar.{u16, raw, utf8, string, blob}
 use Rattle.grammar.specs.Choice.{byTest}
 use Rattle.scanner.specs.Answers.{Got}
 use Rattle.scanner.proofs.Binds.{bind-got, bind-short}

@@ -1,13 +1,13 @@
 -- A name, by what its index field gave.
 use mathlib.Core.Bool.{Bool, true, false}
 use mathlib.Core.List.{List}
-use mathlib.Core.Path.{_≡_, refl, sym, _∙_, ap}
+use mathlib.Core.Path.{_≡_, sym, _∙_}
 use Prim.Native.Nat.{ℕ, _≤_, _<_}
 use borrow.Author.Tests.{lt-ltb, le-ltb, eq-eqb, ne-eqb}
 use Rattle.wire.specs.Refusal.{badInternedIndex, badState}
 use Rattle.wire.specs.Token.{internedNew}
 use Rattle.grammar.specs.Reader.{got, short, refused, give}
-use Rattle.grammar.specs.Grammar.{Span, new, known, u16, string, name}
+use Rattle.grammar.specs.Grammar.{new, known, u16, string, name}
 use Rattle.scanner.specs.Answers.{Got, newName}
 use Rattle.scanner.proofs.Binds.{first-got}
 

@@ -13,7 +13,7 @@ use Rattle.wire.specs.Token.{command}
 use Rattle.grammar.specs.Reader.{got, short, refused}
 use Rattle.grammar.specs.Grammar.{Ref, new, known, Value, Item, Items, item, whole, lacks, stops, after, attribute, first, attributesF, event}
 use Rattle.grammar.specs.Laws.{RefFits, NameFits, ValueFits, ItemFits, attributesF-more, good-attribute, good-first}
-use Rattle.grammar.specs.Scan.{sound, Outcome, addsItem, adds, count, lengths, outcome, Measure, measure}
+use Rattle.grammar.specs.Scan.{sound, Outcome, adds, count, lengths, outcome, Measure, measure}
 use Rattle.scanner.specs.Tally.{limit, RefSmall, NameSmall, ValueSmall, ItemSmall, Bounded, Counts, plus}
 use Rattle.scanner.specs.declared.Pool.{Pool}
 use Rattle.scanner.specs.declared.Tally.{Tally}

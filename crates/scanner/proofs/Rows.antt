@@ -1,8 +1,8 @@
 -- An attribute, by what its name gave.
 use mathlib.Core.Bool.{Bool}
-use mathlib.Core.Option.{Option, none, some}
+use mathlib.Core.Option.{none, some}
 use mathlib.Core.List.{List, []}
-use mathlib.Core.Path.{_≡_, refl, sym, ap, _∙_}
+use mathlib.Core.Path.{_≡_, sym, ap, _∙_}
 use Prim.Native.Nat.{ℕ, _+_, _-_, _≤_, _<_}
 use native.Mathlib.Omega.{arith}
 use borrow.Author.Tests.{lt-ltb, le-ltb, le-leb, lt-leb, eq-eqb, ne-eqb}
@@ -12,7 +12,7 @@ use Rattle.wire.specs.Laws.{command-rule, type-rule}
 use Rattle.wire.specs.Refusal.{unexpectedEof, unknownCommand}
 use Rattle.grammar.specs.Reader.{Reader, got, short, refused, _>>=_, next, give}
 use Rattle.grammar.specs.Grammar.{Ref, Value, Item, byte, string, counted, name, value, attribute, first}
-use Rattle.grammar.specs.Laws.{RefFits, Good, good-name}
+use Rattle.grammar.specs.Laws.{good-name}
 use Rattle.scanner.specs.Answers.{Got, asAttribute, asTag, asTextRow}
 use Rattle.scanner.proofs.Binds.{first-got, second-got, got-same}
 

@@ -1,7 +1,7 @@
 -- A value, by the shape of its type.
 use mathlib.Core.Bool.{Bool}
 use mathlib.Core.List.{List}
-use mathlib.Core.Path.{_≡_, refl, sym, _∙_}
+use mathlib.Core.Path.{_≡_, sym, _∙_}
 use Prim.Native.Nat.{ℕ}
 use Rattle.event.specs.Row.{shape}
 use Rattle.event.specs.declared.Shape.{Shape}

@@ -1,14 +1,14 @@
 -- An invariant of every list of calls, and that it says what is claimed of them.
 use mathlib.Core.Bool.{Bool, true, false, _&&_, cond, true≢false, false≢true}
 use mathlib.Core.List.{List, [], _∷_, _++_, append-assoc, append-nil}
-use mathlib.Core.Path.{_≡_, refl, sym, ap, _∙_, fun-ext}
+use mathlib.Core.Path.{_≡_, refl, sym, ap, _∙_}
 use Prim.Native.Nat.{ℕ, _+_, _*_, _-_, _/_, _≤_, _<_}
 use native.Mathlib.Nat.{add-zero}
 use native.Mathlib.Omega.{arith}
-use borrow.Author.Tests.{ltb-true, le-leb, lt-leb, eq-eqb}
-use lib.ListN.{length, getD, take, drop, length-append, length-drop}
+use borrow.Author.Tests.{le-leb, lt-leb, eq-eqb}
+use lib.ListN.{length, take, drop, length-append, length-drop}
 use lib.Seq.{slice, slice-empty, getD-drop, getD-take, length-slice, drop-drop, length-take-le, sets, sets-eq, take-at, drop-append-le}
-use lib.Dec.{ltb, eqb}
+use lib.Dec.{eqb}
 use Rattle.wire.specs.Header.{u32At, magic}
 use Rattle.event.specs.Row.{Event, rowsAt}
 use Rattle.grammar.specs.Grammar.{Span, Items, event}
@@ -24,7 +24,7 @@ use Rattle.grammar.specs.Stores as Stores
 use Rattle.stream.specs.Stream.{Stream, Lent, Created, created, fresh, sizesBad, create, fitting, fed, feed, finish, given, next, nextFrom, pairs, joined, passed}
 use Rattle.stream.specs.Branches.{feed-by, finish-by, next-by, nextFrom-by}
 use Rattle.stream.specs.Calls.{Call, call-feed, call-next, call-finish, Trace, acceptedBy, handedBy, headerBy, endedBy, afterFeed, afterNext, afterFinish, step, run, start, consumed, Sound}
-use Rattle.stream.specs.Held.{Held, Entry, held-adds, held-finds}
+use Rattle.stream.specs.Held.{Held, held-adds, held-finds}
 
 pub total-snoc : (ns : List ℕ) (n : ℕ) → total (ns ++ (n ∷ [])) ≡ total ns + n
 unfolding total

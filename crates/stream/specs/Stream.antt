@@ -2,9 +2,9 @@
 use mathlib.Core.Bool.{Bool, true, false, _&&_, _||_, cond}
 use mathlib.Core.List.{List, [], _∷_, _++_}
 use Prim.Native.Nat.{ℕ, _+_, _*_, _-_, _/_, _%_, min}
-use lib.ListN.{length, getD, take, drop}
+use lib.ListN.{length, take, drop}
 use lib.Seq.{sets, slice}
-use lib.Dec.{ltb, leb, eqb}
+use lib.Dec.{ltb, eqb}
 use Rattle.wire.specs.Header.{u32At, magic}
 use Rattle.wire.specs.Refusal.{headerShort, invalidMagic, rowsFull, poolFull, namesFull, windowFull, badSize, alreadyFinished, badState}
 use Rattle.grammar.specs.Grammar.{Span, Items, event}

@@ -1,5 +1,4 @@
 use Rattle.event.specs.Words.{attributeForms}
-use mathlib.Core.Path.{_∙_}
 use borrow.Author.Needs.{needs}
 use Rattle.event.proofs.attribute_forms.Statement.{statement}
 use Rattle.event.proofs.attribute_forms.Tie as tie

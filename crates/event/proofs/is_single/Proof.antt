@@ -1,11 +1,10 @@
 use Rattle.event.proofs.Turns.{single-none, single-first, single-turn, single-end}
 use Rattle.event.specs.Words.{attributesOnly, single}
 use borrow.Author.Tests.{eq-eqb, ne-eqb}
-use borrow.Author.Needs.{needs}
 use lib.ListN.{length, drop}
 use native.Mathlib.Omega.{arith}
-use mathlib.Core.Path.{_≡_, refl, sym, _∙_, ap}
-use Prim.Native.Nat.{_+_, _*_, _/_, _-_, _≤_}
+use mathlib.Core.Path.{_≡_, sym, _∙_}
+use Prim.Native.Nat.{_*_, _/_, _-_, _≤_}
 use Rattle.event.proofs.is_single.Statement.{statement}
 use Rattle.event.proofs.is_single.Tie as tie
 

@@ -1,14 +1,14 @@
 use Rattle.event.proofs.Turns.{to-end}
 use Rattle.event.proofs.Turns.{rows-turn, rows-end}
-use Rattle.event.specs.Words.{rowFormsIn, rowsForm, opens, listForms}
+use Rattle.event.specs.Words.{rowFormsIn, rowsForm, listForms}
 use borrow.Author.Tests.{eq-eqb, ne-eqb, not-true, not-false}
 use borrow.Author.Needs.{needs}
 use lib.ListN.{length, drop, length-drop}
 use native.Mathlib.Nat.{sub-zero}
 use native.Mathlib.Omega.{arith}
-use mathlib.Core.Path.{_≡_, refl, sym, _∙_, ap}
-use mathlib.Core.Bool.{true, false}
-use Prim.Native.Nat.{_+_, _/_, _%_, _-_, _≤_}
+use mathlib.Core.Path.{_≡_, sym, _∙_, ap}
+use mathlib.Core.Bool.{false}
+use Prim.Native.Nat.{_/_, _%_, _-_, _≤_}
 use Rattle.event.proofs.list_forms.Statement.{statement}
 use Rattle.event.proofs.list_forms.Tie as tie
 

@@ -1,5 +1,5 @@
 use Rattle.event.proofs.Equal.{rows}
-use mathlib.Core.Path.{_≡_, sym, _∙_}
+use mathlib.Core.Path.{sym, _∙_}
 use Rattle.event.specs.Row.{sameRow, rowAt, equalRows}
 use borrow.Author.Tests.{le-leb, lt-leb, eq-eqb, ne-eqb}
 use borrow.Author.Needs.{needs}

@@ -2,7 +2,7 @@ use Rattle.event.proofs.Equal.{values}
 use Rattle.event.specs.declared.Shape.the-variants as Shape
 use Rattle.event.specs.Row.{valueAt, sameValue}
 use borrow.Author.Tests.{eq-eqb, ne-eqb}
-use mathlib.Core.Path.{_≡_, refl, sym, _∙_}
+use mathlib.Core.Path.{sym, _∙_}
 use borrow.Author.Needs.{needs}
 use Rattle.event.proofs.same_value.Statement.{statement}
 use Rattle.event.proofs.same_value.Tie as tie

@@ -1,9 +1,6 @@
 use Rattle.event.proofs.Shapes.{shape-other}
 use mathlib.Core.Path.{sym}
 use Rattle.event.specs.Row.{shape, shapes}
-use native.Mathlib.Omega.{arith}
-use lib.ListN.{length, getD}
-use borrow.Author.Tests.{le-ltb}
 use Rattle.event.proofs.shape_of.Statement.{statement}
 use Rattle.event.proofs.shape_of.Tie as tie
 

@@ -3,10 +3,9 @@ use Rattle.event.proofs.Turns.{zeros-turn, zeros-end}
 use Rattle.event.specs.Words.{zeros}
 use borrow.Author.Tests.{eq-eqb, ne-eqb}
 use borrow.Author.Needs.{needs}
-use lib.ListN.{length, drop}
 use native.Mathlib.Nat.{add-zero}
 use native.Mathlib.Omega.{arith}
-use mathlib.Core.Path.{_≡_, refl, sym, _∙_, ap}
+use mathlib.Core.Path.{_≡_, sym, _∙_}
 use Prim.Native.Nat.{_+_, _-_, _≤_}
 use Rattle.event.proofs.unused.Statement.{statement}
 use Rattle.event.proofs.unused.Tie as tie

@@ -4,7 +4,7 @@ use Rattle.event.specs.Row.{shape, shapes}
 use mir.Facts.{toZ-ofZ}
 use mir.Val.{toZ}
 use mir.Syntax.{w32, w64}
-use mathlib.Core.Path.{ap, _∙_, sym}
+use mathlib.Core.Path.{ap, _∙_}
 use borrow.Author.Needs.{needs}
 use Rattle.event.proofs.value_by_type.Statement.{statement}
 use Rattle.event.proofs.value_by_type.Tie as tie

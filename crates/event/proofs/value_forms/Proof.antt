@@ -1,5 +1,4 @@
 use Rattle.event.specs.Words.{valueForms}
-use mathlib.Core.Path.{_∙_, sym, ap}
 use borrow.Author.Needs.{needs}
 use Rattle.event.proofs.value_forms.Statement.{statement}
 use Rattle.event.proofs.value_forms.Tie as tie

@@ -1,7 +1,7 @@
 use borrow.Author.Needs.{needs}
 use lib.ListN.{length}
 use native.Mathlib.Omega.{arith}
-use Prim.Native.Nat.{_+_, _*_, _-_, _/_, _%_, _≤_, _<_}
+use Prim.Native.Nat.{_-_, _≤_}
 use Rattle.event_edges.proofs.show_bytes.Statement.{statement}
 use Rattle.event_edges.proofs.show_bytes.Tie as tie
 

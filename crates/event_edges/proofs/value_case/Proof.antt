@@ -1,8 +1,7 @@
 use mathlib.Core.Path.{_≡_}
 use borrow.Author.Needs.{needs}
 use lib.ListN.{length}
-use native.Mathlib.Omega.{arith}
-use Prim.Native.Nat.{_+_, _*_, _-_, _/_, _%_, _≤_, _<_}
+use Prim.Native.Nat.{_-_, _≤_}
 use Rattle.event_edges.proofs.value_case.Statement.{statement}
 use Rattle.event_edges.proofs.value_case.Tie as tie
 

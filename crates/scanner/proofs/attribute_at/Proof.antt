@@ -1,11 +1,11 @@
 use Rattle.scanner.proofs.Rows.{type-is, type-small, name-within, attribute-short, attribute-refused, attribute-is, attribute-name, attribute-value}
 use Rattle.scanner.proofs.Binds.{got-same}
-use Rattle.scanner.specs.Answers.{nameOf, referenceOf, asAttribute, poolGrown}
+use Rattle.scanner.specs.Answers.{nameOf, poolGrown}
 use Rattle.grammar.specs.Scan.{sound}
 use Rattle.grammar.specs.Grammar.{counted}
-use lib.ListN.{length, getD}
+use lib.ListN.{getD}
 use native.Mathlib.Omega.{arith}
-use mathlib.Core.Path.{_≡_, sym, ap, _∙_}
+use mathlib.Core.Path.{sym, ap, _∙_}
 use Prim.Native.Nat.{_+_, _<_}
 use borrow.Author.Needs.{needs}
 use Rattle.scanner.proofs.attribute_at.Statement.{statement}

@@ -1,7 +1,7 @@
 use Rattle.scanner.proofs.Fields.{u16-within, blob-short, blob-cut, blob-good}
 use Rattle.scanner.specs.Answers.{numberOf}
 use native.Mathlib.Omega.{arith}
-use mathlib.Core.Path.{_≡_, sym, ap, _∙_}
+use mathlib.Core.Path.{sym, ap, _∙_}
 use borrow.Author.Needs.{needs}
 use Rattle.scanner.proofs.blob_at.Statement.{statement}
 use Rattle.scanner.proofs.blob_at.Tie as tie

@@ -3,7 +3,7 @@ use Rattle.scanner.specs.Answers.{asTag, asTextRow}
 use Rattle.grammar.specs.Scan.{sound}
 use lib.ListN.{length, getD}
 use native.Mathlib.Omega.{arith}
-use mathlib.Core.Path.{_≡_, sym, ap, _∙_}
+use mathlib.Core.Path.{sym, ap, _∙_}
 use Prim.Native.Nat.{_<_}
 use borrow.Author.Needs.{needs}
 use Rattle.scanner.proofs.first_at.Statement.{statement}

@@ -2,7 +2,7 @@ use Rattle.scanner.proofs.Rest.{asTold, none-yet, whole-short, whole-st
 use Rattle.scanner.specs.Answers.{itemReadOf}
 use Rattle.grammar.specs.Scan.{outcome}
 use native.Mathlib.Omega.{arith}
-use mathlib.Core.Path.{_≡_, sym, ap, _∙_}
+use mathlib.Core.Path.{sym, ap, _∙_}
 use mathlib.Core.Bool.{true≢false}
 use borrow.Author.Needs.{needs}
 use Rattle.scanner.proofs.measure.Statement.{statement}

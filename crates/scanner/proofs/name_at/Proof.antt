@@ -3,7 +3,7 @@ use Rattle.scanner.proofs.Fields.{u16-within}
 use Rattle.scanner.specs.Answers.{numberOf}
 use Rattle.grammar.specs.Scan.{sound}
 use native.Mathlib.Omega.{arith}
-use mathlib.Core.Path.{_≡_, sym, ap, _∙_}
+use mathlib.Core.Path.{sym, ap, _∙_}
 use borrow.Author.Needs.{needs}
 use Rattle.scanner.proofs.name_at.Statement.{statement}
 use Rattle.scanner.proofs.name_at.Tie as tie

@@ -1,8 +1,5 @@
 use Rattle.scanner.proofs.Fields.{low-half, high-half}
-use Prim.Native.Nat.{_+_}
-use mathlib.Core.Path.{sym, _∙_, ap}
 use Rattle.grammar.specs.Grammar.{u64}
-use Rattle.wire.specs.Header.{u32At}
 use borrow.Author.Tests.{lt-ltb, le-ltb}
 use borrow.Author.Needs.{needs}
 use Rattle.scanner.proofs.pair_at.Statement.{statement}

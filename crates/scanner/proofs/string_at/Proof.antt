@@ -1,11 +1,10 @@
-use Rattle.utf8.specs.Utf8.{wellFormed}
 use native.Mathlib.Nat.{add-sub-cancel-left}
-use lib.ListN.{length, take, drop}
-use Prim.Native.Nat.{_+_, _-_, _≤_}
+use lib.ListN.{length}
+use Prim.Native.Nat.{_-_, _≤_}
 use Rattle.scanner.proofs.Fields.{u16-within, string-short, string-cut, string-good, string-broken, string-again}
 use Rattle.scanner.specs.Answers.{numberOf}
 use native.Mathlib.Omega.{arith}
-use mathlib.Core.Path.{_≡_, sym, ap, _∙_}
+use mathlib.Core.Path.{sym, ap, _∙_}
 use borrow.Author.Needs.{needs}
 use Rattle.scanner.proofs.string_at.Statement.{statement}
 use Rattle.scanner.proofs.string_at.Tie as tie

@@ -3,7 +3,7 @@ use Rattle.scanner.specs.Answers.{asText, asInterned, asWord}
 use Rattle.grammar.specs.Scan.{sound}
 use Rattle.grammar.specs.Grammar.{shaped}
 use Rattle.event.specs.declared.Shape.the-variants as Shape
-use mathlib.Core.Path.{_≡_, sym, ap, _∙_}
+use mathlib.Core.Path.{sym, ap, _∙_}
 use borrow.Author.Needs.{needs}
 use Rattle.scanner.proofs.value_at.Statement.{statement}
 use Rattle.scanner.proofs.value_at.Tie as tie

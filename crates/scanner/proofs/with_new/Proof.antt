@@ -2,7 +2,6 @@ use Rattle.scanner.proofs.Tallies.{joins-none}
 use Rattle.scanner.specs.Answers.{poolGrown}
 use Rattle.grammar.specs.Grammar.{most}
 use borrow.Author.Tests.{lt-ltb, le-ltb}
-use native.Mathlib.Omega.{arith}
 use mathlib.Core.Path.{refl}
 use borrow.Author.Needs.{needs}
 use Rattle.scanner.proofs.with_new.Statement.{statement}

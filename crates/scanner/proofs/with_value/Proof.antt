@@ -1,7 +1,6 @@
 use Rattle.scanner.proofs.Tallies.{joins-none, new-added, new-bytes}
 use Rattle.grammar.specs.Scan.{addsValue, addsRef, lengths}
 use Rattle.grammar.specs.Grammar.{countedValue, counted}
-use mathlib.Core.Path.{_≡_, ap, sym}
 use borrow.Author.Needs.{needs}
 use Rattle.scanner.proofs.with_value.Statement.{statement}
 use Rattle.scanner.proofs.with_value.Tie as tie

@@ -1,6 +1,6 @@
 use borrow.Author.Tests.{lt-ltb, le-ltb, eq-eqb, ne-eqb}
-use Rattle.wire.specs.Header.{header, u32At, magic, refused}
-use mathlib.Core.Path.{_≡_, _∙_, sym, ap}
+use Rattle.wire.specs.Header.{header, u32At, magic}
+use mathlib.Core.Path.{_≡_, _∙_, sym}
 use borrow.Author.Needs.{needs}
 use Rattle.wire.proofs.check_magic.Statement.{statement}
 use Rattle.wire.proofs.check_magic.Tie as tie
