@@ -5,15 +5,15 @@ use mathlib.Core.Path.{_≡_, sym, ap, _∙_}
 use Prim.Native.Nat.{ℕ}
 use Rattle.event.specs.Row.{Event}
 use Rattle.grammar.specs.Document.{read, events, lastPool}
-use Rattle.writer.specs.Encode.{encode}
-use Rattle.writer.specs.Formed.{FormedEvents}
-use Rattle.writer.specs.Names.{keptNames}
-use Rattle.writer.specs.Laws.{list-formed, document}
-use Rattle.writer.specs.Writer as Writer
-use Rattle.stream.specs.Stream.{create}
-use Rattle.stream.specs.Calls.{Trace, run, start}
-use Rattle.stream.specs.Invariant.{trace-sound}
-use Rattle.stream.specs.Lively.{agreement}
+use Rattle.writer_spec.specs.Encode.{encode}
+use Rattle.writer_spec.specs.Formed.{FormedEvents}
+use Rattle.writer_spec.specs.Names.{keptNames}
+use Rattle.writer_spec.specs.Laws.{list-formed, document}
+use Rattle.writer_spec.specs.Writer as Writer
+use Rattle.stream_spec.specs.Stream.{create}
+use Rattle.stream_spec.specs.Calls.{Trace, run, start}
+use Rattle.stream_spec.specs.Invariant.{trace-sound}
+use Rattle.stream_spec.specs.Lively.{agreement}
 use Rattle.trace.specs.RoundTrip.{written-events, written-names}
 use Rattle.trace.specs.Trace.{Made, Demand3-holds}
 

@@ -15,10 +15,10 @@ use Rattle.event.specs.Row as Row
 use Rattle.event.specs.Words as Words
 use Rattle.grammar.specs.Grammar as G
 use Rattle.grammar.specs.Example.{events, document, p, v}
-use Rattle.writer.specs.Encode as E
-use Rattle.writer.specs.Faults as F
-use Rattle.writer.specs.Taken.{Words32}
-use Rattle.writer.specs.Writer as W
+use Rattle.writer_spec.specs.Encode as E
+use Rattle.writer_spec.specs.Faults as F
+use Rattle.writer_spec.specs.Taken.{Words32}
+use Rattle.writer_spec.specs.Writer as W
 use Rattle.trace.specs.Trace.{Made}
 
 -- ---- words of 32 bits, computed

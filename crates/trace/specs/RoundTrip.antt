@@ -12,11 +12,11 @@ use Rattle.event.specs.Row.{Event}
 use Rattle.grammar.specs.Grammar.{event}
 use Rattle.grammar.specs.Document.{Pool, all, readOne, Reading, reads, ended, readF, read, events, lastPool}
 use Rattle.grammar.specs.Steps.{ending-ends, readS, readS-one, read-passed}
-use Rattle.writer.specs.Encode.{keepRows, rowsBytes, flat, encode}
-use Rattle.writer.specs.Names.{keptNames}
-use Rattle.writer.specs.Formed.{FormedEvents}
-use Rattle.writer.specs.Pooled.{pool-kept}
-use Rattle.writer.specs.Wrote.{keepRows-append, rowsBytes-append}
+use Rattle.writer_spec.specs.Encode.{keepRows, rowsBytes, flat, encode}
+use Rattle.writer_spec.specs.Names.{keptNames}
+use Rattle.writer_spec.specs.Formed.{FormedEvents}
+use Rattle.writer_spec.specs.Pooled.{pool-kept}
+use Rattle.writer_spec.specs.Wrote.{keepRows-append, rowsBytes-append}
 use Rattle.trace.specs.Written.{Says, event-at, no-attribute, keepRows-small}
 
 -- these events, each with the length that the writer gives it after the names of those before it, and then the end

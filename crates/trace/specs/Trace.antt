@@ -6,13 +6,13 @@ use mathlib.Core.Path.{_≡_}
 use Prim.Native.Nat.{ℕ, _/_}
 use lib.ListN.{length, take, drop}
 use Rattle.event.specs.Row.{Event, rowsAt}
-use Rattle.writer.specs.Faults.{group}
-use Rattle.writer.specs.Names.{keptNames}
-use Rattle.writer.specs.Taken.{Words32}
-use Rattle.writer.specs.Writer as Writer
-use Rattle.writer.specs.Writer.{Writer, wrote, writeEvents}
-use Rattle.stream.specs.Stream.{Stream, Lent, create, created}
-use Rattle.stream.specs.Calls.{Call, Trace, run, start, Sound, Room, Delivers}
+use Rattle.writer_spec.specs.Faults.{group}
+use Rattle.writer_spec.specs.Names.{keptNames}
+use Rattle.writer_spec.specs.Taken.{Words32}
+use Rattle.writer_spec.specs.Writer as Writer
+use Rattle.writer_spec.specs.Writer.{Writer, wrote, writeEvents}
+use Rattle.stream_spec.specs.Stream.{Stream, Lent, create, created}
+use Rattle.stream_spec.specs.Calls.{Call, Trace, run, start, Sound, Room, Delivers}
 
 -- "What the writer made of an event list: the header and that list's events, from an empty pool, the list not refused": a
 -- writer was created and then took a list, and neither call was refused

@@ -19,10 +19,10 @@ use Rattle.wire.specs.Header.{u32At}
 use Rattle.wire.specs.Token.{command}
 use Rattle.wire.specs.Token as Token
 use Rattle.grammar.specs.Document.{Pool, all, bytesAt, refBytes, valueOf, keepValue, keepItem, typeOf, rowOf, rowsOf, poolOf}
-use Rattle.writer.specs.Encode.{be16, be32, find, sized, nameBy, nameBytes, keepBy, keep, valueBytes, tokenType, rowBytes, keepRow, keepRows, rowsBytes, flat}
+use Rattle.writer_spec.specs.Encode.{be16, be32, find, sized, nameBy, nameBytes, keepBy, keep, valueBytes, tokenType, rowBytes, keepRow, keepRows, rowsBytes, flat}
 use Rattle.event.specs.Span.{same}
 use Rattle.event.specs.Laws.{same-eq}
-use Rattle.writer.specs.Formed.{Str, FormedValue, FormedAttribute, FormedAttributes, FormedFirst, FormedEvent, FormedEvents}
+use Rattle.writer_spec.specs.Formed.{Str, FormedValue, FormedAttribute, FormedAttributes, FormedFirst, FormedEvent, FormedEvents}
 use Rattle.grammar.specs.Steps.{Ends, keepItem-length}
 use Rattle.event.specs.Row as Row
 use Rattle.event.specs.declared.Shape.the-variants as Shape
