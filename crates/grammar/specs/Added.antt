@@ -9,7 +9,7 @@ use lib.ListN.{length, drop, length-append, length-drop, length-map}
 use lib.Seq.{length-take-le}
 use lib.Dec.{ltb}
 use Rattle.event.specs.declared.Shape.{Shape}
-use Rattle.grammar.specs.Grammar.{Span, Ref, new, known, Value, Item, Items, item, whole, lacks, stops, most, countedName, after}
+use Rattle.grammar.specs.Grammar.{Span, Ref, new, known, Value, Item, Items, item, whole, lacks, stops, most, counted, countedName, countedValue, after}
 use Rattle.grammar.specs.Document.{Pool, bytesAt, keep, poolOf}
 use Rattle.grammar.specs.Document as D
 use Rattle.grammar.specs.Scan.{addsRef, addsName, addsValue, addsItem, adds}
@@ -117,3 +117,31 @@ adds-in s t lo k j (stops n d) y a = tt
 pub bytesAt-length : (s : List ℕ) (t : Span) → In (length s) t → length (bytesAt s t) ≡ t .len
 unfolding bytesAt
 bytesAt-length s t h = length-take-le (t .len) (drop (t .start) s) (simp length-drop (omega arith))
+
+-- ---- the pool's count and the names that join it
+
+pub counted-adds : (k : ℕ) (r : Ref) → counted k r ≡ k + length (addsRef k r)
+unfolding counted addsRef
+counted-adds k (new t) = byTest (ltb k most) (λ b. rw b) (λ b. rw b (omega arith))
+counted-adds k (known i) = omega arith
+
+pub countedName-adds : (k : ℕ) (r : Option Ref) → countedName k r ≡ k + length (addsName k r)
+unfolding countedName addsName
+countedName-adds k none = omega arith
+countedName-adds k (some r) = counted-adds k r
+
+pub countedValue-adds : (k : ℕ) (v : Value) → countedValue k v ≡ k + length (addsValue k v)
+unfolding countedValue addsValue
+countedValue-adds k Value.nothing = omega arith
+countedValue-adds k Value.empty = omega arith
+countedValue-adds k (Value.span t) = omega arith
+countedValue-adds k (Value.interned r) = counted-adds k r
+countedValue-adds k (Value.word w) = omega arith
+countedValue-adds k (Value.pair a b) = omega arith
+
+pub after-adds : (k : ℕ) (i : Item) → after k i ≡ k + length (addsItem k i)
+unfolding after addsItem
+after-adds k i =
+    let a : List Span = addsName k (i .name) in
+    let b : List Span = addsValue (countedName k (i .name)) (i .value) in
+    omega (arith, countedValue-adds (countedName k (i .name)) (i .value), countedName-adds k (i .name), length-append a b)

@@ -1,5 +1,5 @@
 -- Proofs by the outcome of a test.
-use mathlib.Core.Bool.{Bool, true, false, cond}
+use mathlib.Core.Bool.{Bool, true, false, cond, _||_, true≢false}
 use mathlib.Core.Path.{_≡_, refl}
 
 -- by a test, with its equation
@@ -11,3 +11,8 @@ byTest false f g = g refl
 abbrev pub cond-by {ℓ κ} : {X : Type ℓ} (P : X → Type κ) (b : Bool) (x y : X) → (b ≡ true → P x) → (b ≡ false → P y) → P (cond b x y)
 cond-by P true x y f g = f refl
 cond-by P false x y f g = g refl
+
+-- neither of two
+pub neither : (a b : Bool) → (a || b) ≡ false → (a ≡ false) × (b ≡ false)
+neither true b h = absurd (true≢false h)
+neither false b h = (refl, h)

@@ -3,7 +3,7 @@
 use mathlib.Core.Bool.{Bool, true, false, not, _&&_, true≢false}
 use mathlib.Core.List.{List, [], _∷_}
 use mathlib.Core.Path.{_≡_, refl}
-use Prim.Native.Nat.{ℕ, zero, suc}
+use Prim.Native.Nat.{ℕ, zero, suc, _≤_}
 use native.Mathlib.Omega.{arith}
 use lib.ListN.{length, drop}
 use lib.Seq.{drop-length}
@@ -37,6 +37,18 @@ complete-reads-on pool s finished n h = let x = ends-of finished n (event all (l
     go false true w c = absurd (true≢false c)
     go true false w c = reads-on-one pool s true n w
     go false false w c = reads-on-one pool s false n w
+
+-- a complete event ends where its bytes end, or before
+pub ends-within : (s : List ℕ) (n : ℕ) (finished : Bool) (k : ℕ) (is y : Items) → Agree s [] k 1 is y → outcome finished is ≡ complete n → n ≤ length s
+unfolding outcome
+ends-within s n finished k (item i is) y a h = ends-within s n finished (after k i) is (a .1 .0) (a .1 .2) h
+ends-within s n true k (whole m true) y a h = let same : m ≡ n = cc h in omega (arith, a .1)
+ends-within s n false k (whole m true) y a h = let z : _≡_ {A = ℕ} 0 1 = cc h in absurd (omega arith)
+ends-within s n true k (whole m false) y a h = let same : m ≡ n = cc h in omega (arith, a .1)
+ends-within s n false k (whole m false) y a h = let same : m ≡ n = cc h in omega (arith, a .1)
+ends-within s n true k (lacks j) y a h = let z : _≡_ {A = ℕ} 0 1 = cc h in absurd (omega arith)
+ends-within s n false k (lacks j) y a h = let z : _≡_ {A = ℕ} 0 1 = cc h in absurd (omega arith)
+ends-within s n finished k (stops j d) y a h = let z : _≡_ {A = ℕ} 0 1 = cc h in absurd (omega arith)
 
 -- ---- an incomplete event
 

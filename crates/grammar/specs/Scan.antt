@@ -7,7 +7,7 @@ use Prim.Native.Nat.{ℕ, suc, _+_, _*_}
 use lib.ListN.{length, getD}
 use lib.Dec.{ltb, leb}
 use Rattle.grammar.specs.Grammar.{Span, Ref, new, known, Value, Item, Items, item, whole, lacks, stops, most, countedName, after}
-use Rattle.grammar.specs.Document.{typeOf}
+use Rattle.grammar.specs.Document.{bytesAt, typeOf}
 
 -- ---- the pool table's entries
 
@@ -47,6 +47,21 @@ adds names (stops n d) = []
 unfoldable pub lengths : List Span → ℕ
 lengths [] = 0
 lengths (t ∷ ts) = t .len + lengths ts
+
+-- the pairs of new names that stay where they are; `base` is where the event starts in their store
+unfoldable pub pairs : ℕ → List Span → List ℕ
+pairs base [] = []
+pairs base (t ∷ ts) = (base + t .start) ∷ t .len ∷ pairs base ts
+
+-- the pairs of new names whose bytes are copied to a store, one after another from a place on
+unfoldable pub copiedPairs : ℕ → List Span → List ℕ
+copiedPairs at [] = []
+copiedPairs at (t ∷ ts) = at ∷ t .len ∷ copiedPairs (at + t .len) ts
+
+-- these bytes
+unfoldable pub joined : List ℕ → List Span → List ℕ
+joined s [] = []
+joined s (t ∷ ts) = bytesAt s t ++ joined s ts
 
 -- ---- rows as words
 

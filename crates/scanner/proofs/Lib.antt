@@ -5,3 +5,10 @@ mod Values
 mod Rows
 mod Tallies
 mod Rest
+mod Keeping
+mod Walk
+mod Passes
+mod Stepping
+mod Flats
+mod Turns
+mod Quickly

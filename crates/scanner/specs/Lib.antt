@@ -1,2 +1,5 @@
 pub mod Answers
 pub mod Tally
+pub mod Keep
+pub mod Step
+pub mod Quick

@@ -1,6 +1,9 @@
-// The readers of one event's fields, rows and attributes, and the first pass over an event. A place is counted from the event's
-// first byte, where the slice starts.
+// The scanner of both readers: readers of one event's fields, rows and attributes; a first pass over an event, which measures; a
+// second, which writes; and the step made of both. A place is counted from the event's first byte, where the slice starts.
+mod quick;
+
 use event::Shape;
+use quick::Taken;
 use wire::Command;
 use wire::Refusal;
 use wire::Type;
@@ -8,11 +11,16 @@ ghost use mathlib.Core.Bool.{cond, true};
 ghost use mathlib.Core.Path.{_≡_};
 ghost use lib.Dec.{ltb};
 ghost use Prim.Native.Nat.{_+_, _*_, _≤_, _<_};
-ghost use lib.ListN.{length};
+ghost use mathlib.Core.List.{[], _∷_, _++_};
+ghost use lib.ListN.{length, getD, take, drop};
+ghost use lib.Seq.{sets};
 ghost use Rattle.wire.specs.Token.{builtIn};
-ghost use Rattle.grammar.specs.Grammar.{u16, u32, u64, string, blob, name, value, attribute, first, most, countedName, countedValue, lacks, whole, attributesF, event};
-ghost use Rattle.grammar.specs.Scan.{sound, outcome, measure, addsName, addsValue, lengths};
+ghost use Rattle.grammar.specs.Grammar.{u16, u32, u64, string, blob, name, value, attribute, first, most, countedName, countedValue, lacks, whole, new, after, attributesF, event};
+ghost use Rattle.grammar.specs.Document.{typeOf};
+ghost use Rattle.grammar.specs.Scan.{sound, outcome, measure, addsRef, addsName, addsValue, addsItem, adds, lengths, pairs, nameWords, valueWords, itemWords, words};
 ghost use Rattle.scanner.specs.Tally.{Small, NameSmall, ValueSmall, ItemSmall, Bounded, Joins, Counts, plus, outcomeOf, measuredOf};
+ghost use Rattle.scanner.specs.Keep.{There, Copyable, Copied, NamePlaced, ValuePlaced, ItemPlaced, NameRoom, ValueRoom, PoolAfter, Keepable, Writable, wordsOf, moved, carried, Movable};
+ghost use Rattle.scanner.specs.Step.{Quickly, Ready, readBy, stepOf, step, tooLong, outside};
 ghost use Rattle.scanner.specs.Answers.{numberOf, textOf, nameOf, newName, valueReadOf, asText, asInterned, asWord, asPair, valueOf, itemOf, poolGrown, referenceOf, asAttribute, asTag, asTextRow, itemReadOf, Trusted};
 
 // ---- fields
@@ -666,4 +674,616 @@ fn measure(s: &[u8], finished: bool, tokens: &[u16; 256], table: &[u32], pool: P
         ItemRead::Short(k) => told(empty, ran_out(finished, k)),
         ItemRead::Refused(r) => told(empty, Outcome::Bad(r)),
     }
+}
+
+// ---- the second pass, over an event that was measured: its new names, then its rows
+
+// The pool after a row's name.
+
+fn after_name(pool: Pool, name: Reference) -> Pool
+    ensures { λ r. ⌜ PoolAfter (countedName (pool .names) (referenceOf name)) pool r ⌝ }
+{
+    match name {
+        Reference::Absent => pool,
+        Reference::New { start: _, len: _ } => grown(pool),
+        Reference::Known(_) => pool,
+    }
+}
+
+fn after_item(pool: Pool, item: Item) -> Pool
+    ensures { λ r. ⌜ PoolAfter (after (pool .names) (itemOf item)) pool r ⌝ }
+{
+    let name = item.name;
+    let value = item.value;
+    let named = after_name(pool, name);
+    match value {
+        Value::Nothing => named,
+        Value::Empty => named,
+        Value::Span { start: _, len: _ } => named,
+        Value::New { start: _, len: _ } => grown(named),
+        Value::Known(_) => named,
+        Value::Word(_) => named,
+        Value::Pair { high: _, low: _ } => named,
+    }
+}
+
+// ---- new names
+
+// The pair of a new name, which lies at start from base on, while there is room in the pool.
+fn keep_new(table: &mut [u32], names: usize, base: usize, start: usize, len: usize)
+    requires { ⌜ base + (start + len) ≤ 16_777_216 ⌝ }
+    requires { ⌜ (names < most → 2 * names + 2 ≤ length (now table)) ⌝ }
+    ensures { λ _. ⌜ now (table .exit) ≡ sets (now (table .entry)) (2 * names) (pairs base (addsRef names (new (record { start = start; len = len })))) ⌝ }
+{
+    if names < wire::INTERNED_NEW as usize {
+        table[2 * names] = (base + start) as u32;
+        table[2 * names + 1] = len as u32;
+    }
+}
+
+fn keep_name(table: &mut [u32], names: usize, base: usize, name: Reference)
+    requires { ⌜ NameRoom base names (now table) (referenceOf name) ⌝ }
+    ensures { λ _. ⌜ now (table .exit) ≡ sets (now (table .entry)) (2 * names) (pairs base (addsName names (referenceOf name))) ⌝ }
+{
+    match name {
+        Reference::Absent => {}
+        Reference::New { start, len } => keep_new(table, names, base, start, len),
+        Reference::Known(_) => {}
+    }
+}
+
+fn keep_value(table: &mut [u32], names: usize, base: usize, value: Value)
+    requires { ⌜ ValueRoom base names (now table) (valueOf value) ⌝ }
+    ensures { λ _. ⌜ now (table .exit) ≡ sets (now (table .entry)) (2 * names) (pairs base (addsValue names (valueOf value))) ⌝ }
+{
+    match value {
+        Value::Nothing => {}
+        Value::Empty => {}
+        Value::Span { start: _, len: _ } => {}
+        Value::New { start, len } => keep_new(table, names, base, start, len),
+        Value::Known(_) => {}
+        Value::Word(_) => {}
+        Value::Pair { high: _, low: _ } => {}
+    }
+}
+
+// The new names of a row.
+fn keep_item(table: &mut [u32], pool: Pool, base: usize, item: Item)
+    requires { ⌜ NameRoom base (pool .names) (now table) (referenceOf (item .name)) ⌝ }
+    requires { ⌜ ValueRoom base (countedName (pool .names) (referenceOf (item .name))) (now table) (valueOf (item .value)) ⌝ }
+    ensures { λ _. ⌜ now (table .exit) ≡ sets (now (table .entry)) (2 * pool .names) (pairs base (addsItem (pool .names) (itemOf item))) ⌝ }
+{
+    let name = item.name;
+    let value = item.value;
+    let names = pool.names;
+    keep_name(table, names, base, name);
+    let named = after_name(pool, name);
+    let more = named.names;
+    keep_value(table, more, base, value)
+}
+
+// The new names of the attributes from a place on.
+fn keep_rest(
+    s: &[u8],
+    from: usize,
+    base: usize,
+    tokens: &[u16; 256],
+    table: &mut [u32],
+    start: Pool,
+)
+    requires { ⌜ from ≤ length (now s) ⌝ }
+    requires { ⌜ now tokens ≡ builtIn ⌝ }
+    requires { ⌜ Keepable base (now s) (attributesF (sound (start .kept) (now table) (start .stored)) (length (now s)) (start .names) (now s) from) start (now table) ⌝ }
+    ensures { λ _. ⌜ now (table .exit) ≡ sets (now (table .entry)) (2 * start .names) (pairs base (adds (start .names) (attributesF (sound (start .kept) (now (table .entry)) (start .stored)) (length (now (s .entry))) (start .names) (now (s .entry)) from))) ⌝ }
+{
+    let mut at = from;
+    let mut pool = start;
+    while at < s.len() {
+        let command = Command::new(tokens, s[at]);
+        let kind = command.0;
+        if kind != Command::ATTRIBUTE {
+            return;
+        }
+        match attribute_at(s, at, false, tokens, table, pool) {
+            ItemRead::Got { item, next } => {
+                keep_item(table, pool, base, item);
+                pool = after_item(pool, item);
+                at = next;
+            }
+            ItemRead::Short(_) => {
+                return;
+            }
+            ItemRead::Refused(_) => {
+                return;
+            }
+        }
+    }
+}
+
+// The new names of the event.
+fn keep(s: &[u8], base: usize, tokens: &[u16; 256], table: &mut [u32], pool: Pool)
+    requires { ⌜ now tokens ≡ builtIn ⌝ }
+    requires { ⌜ Keepable base (now s) (event (sound (pool .kept) (now table) (pool .stored)) (pool .names) (now s)) pool (now table) ⌝ }
+    ensures { λ _. ⌜ now (table .exit) ≡ sets (now (table .entry)) (2 * pool .names) (pairs base (adds (pool .names) (event (sound (pool .kept) (now (table .entry)) (pool .stored)) (pool .names) (now (s .entry))))) ⌝ }
+{
+    match first_at(s, false, tokens, table, pool) {
+        ItemRead::Got { item, next } => {
+            keep_item(table, pool, base, item);
+            let kind = item.kind;
+            if kind == Command::START_TAG {
+                keep_rest(s, next, base, tokens, table, after_item(pool, item));
+            }
+        }
+        ItemRead::Short(_) => {}
+        ItemRead::Refused(_) => {}
+    }
+}
+
+// ---- names whose bytes are copied
+
+// Copies so many bytes of s from a place on to a place of the store.
+fn copy(s: &[u8], start: usize, len: usize, store: &mut [u8], to: usize)
+    requires { ⌜ start + len ≤ length (now s) ⌝ }
+    requires { ⌜ to + len ≤ length (now store) ⌝ }
+    ensures { λ _. ⌜ now (store .exit) ≡ sets (now (store .entry)) to (take len (drop start (now (s .entry)))) ⌝ }
+{
+    let mut i = 0;
+    while i < len {
+        store[to + i] = s[start + i];
+        i += 1;
+    }
+}
+
+// The names of so many pairs, which span s, are copied to the store from a place on, and the pairs then span the store.
+fn copy_names(s: &[u8], table: &mut [u32], first: usize, count: usize, store: &mut [u8], to: usize)
+    requires { ⌜ 2 * (first + count) ≤ length (now table) ⌝ }
+    requires { ⌜ length (now store) ≤ 16_777_216 ⌝ }
+    requires { ⌜ Movable count to (now s) (drop (2 * first) (now table)) (now store) ⌝ }
+    ensures pairs { λ _. ⌜ now (table .exit) ≡ sets (now (table .entry)) (2 * first) (moved count to (drop (2 * first) (now (table .entry)))) ⌝ }
+    ensures bytes { λ _. ⌜ now (store .exit) ≡ sets (now (store .entry)) to (carried count (now (s .entry)) (drop (2 * first) (now (table .entry)))) ⌝ }
+{
+    let mut i = 0;
+    let mut used = to;
+    while i < count {
+        let k = 2 * (first + i);
+        let start = table[k] as usize;
+        let len = table[k + 1] as usize;
+        copy(s, start, len, store, used);
+        table[k] = used as u32;
+        used += len;
+        i += 1;
+    }
+}
+
+// ---- rows
+
+// Three words of a row: a span's source, start and length, or what the value's type has in their place.
+pub struct Words {
+    pub source: u32,
+    pub a: u32,
+    pub b: u32,
+}
+
+fn span_words(base: usize, start: usize, len: usize) -> Words
+    requires { ⌜ base + (start + len) ≤ 16_777_216 ⌝ }
+    ensures { λ r. ⌜ wordsOf r ≡ 0 ∷ (base + start) ∷ len ∷ [] ⌝ }
+{
+    Words {
+        source: 0,
+        a: (base + start) as u32,
+        b: len as u32,
+    }
+}
+
+fn pooled_words(pooled: u32, table: &[u32], index: u32) -> Words
+    requires { ⌜ 2 * index + 1 < length (now table) ⌝ }
+    ensures { λ r. ⌜ wordsOf r ≡ pooled ∷ getD (now (table .entry)) (2 * index) 0 ∷ getD (now (table .entry)) (2 * index + 1) 0 ∷ [] ⌝ }
+{
+    let i = index as usize;
+    Words {
+        source: pooled,
+        a: table[2 * i],
+        b: table[2 * i + 1],
+    }
+}
+
+fn name_words(pooled: u32, base: usize, table: &[u32], name: Reference) -> Words
+    requires { ⌜ NamePlaced base (now table) (referenceOf name) ⌝ }
+    ensures { λ r. ⌜ wordsOf r ≡ nameWords pooled base (now (table .entry)) (referenceOf name) ⌝ }
+{
+    match name {
+        Reference::Absent => Words {
+            source: 0,
+            a: 0,
+            b: 0,
+        },
+        Reference::New { start, len } => span_words(base, start, len),
+        Reference::Known(index) => pooled_words(pooled, table, index),
+    }
+}
+
+fn value_words(pooled: u32, base: usize, table: &[u32], value: Value) -> Words
+    requires { ⌜ ValuePlaced base (now table) (valueOf value) ⌝ }
+    ensures { λ r. ⌜ wordsOf r ≡ valueWords pooled base (now (table .entry)) (valueOf value) ⌝ }
+{
+    match value {
+        Value::Nothing => Words {
+            source: 0,
+            a: 0,
+            b: 0,
+        },
+        Value::Empty => Words {
+            source: 0,
+            a: 0,
+            b: 0,
+        },
+        Value::Span { start, len } => span_words(base, start, len),
+        Value::New { start, len } => span_words(base, start, len),
+        Value::Known(index) => pooled_words(pooled, table, index),
+        Value::Word(w) => Words {
+            source: 0,
+            a: 0,
+            b: w,
+        },
+        Value::Pair { high, low } => Words {
+            source: 0,
+            a: high,
+            b: low,
+        },
+    }
+}
+
+// An interned string is a string in a row.
+fn row_type(type_: u32) -> u32
+    ensures { λ r. ⌜ r ≡ typeOf «type_» ⌝ }
+{
+    if type_ == Type::STRING_INTERNED {
+        return Type::STRING;
+    }
+    type_
+}
+
+// The eight words of a row, from a place on.
+fn put_row(rows: &mut [u32], to: usize, kind: u32, name: Words, type_: u32, value: Words)
+    requires { ⌜ to + 8 ≤ length (now rows) ⌝ }
+    ensures { λ _. ⌜ now (rows .exit) ≡ sets (now (rows .entry)) to (kind ∷ (wordsOf name ++ («type_» ∷ wordsOf value))) ⌝ }
+{
+    rows[to] = kind;
+    rows[to + 1] = name.source;
+    rows[to + 2] = name.a;
+    rows[to + 3] = name.b;
+    rows[to + 4] = type_;
+    rows[to + 5] = value.source;
+    rows[to + 6] = value.a;
+    rows[to + 7] = value.b;
+}
+
+fn put_item(rows: &mut [u32], to: usize, pooled: u32, base: usize, table: &[u32], item: Item)
+    requires { ⌜ to + 8 ≤ length (now rows) ⌝ }
+    requires { ⌜ ItemPlaced base (now table) (itemOf item) ⌝ }
+    ensures { λ _. ⌜ now (rows .exit) ≡ sets (now (rows .entry)) to (itemWords pooled base (now (table .entry)) (itemOf item)) ⌝ }
+{
+    let name = item.name;
+    let value = item.value;
+    let n = name_words(pooled, base, table, name);
+    let v = value_words(pooled, base, table, value);
+    let t = row_type(item.type_);
+    put_row(rows, to, item.kind, n, t, v)
+}
+
+// The rows of the attributes from a place on, after the first row.
+fn write_rest(
+    s: &[u8],
+    from: usize,
+    pooled: u32,
+    base: usize,
+    tokens: &[u16; 256],
+    table: &[u32],
+    start: Pool,
+    rows: &mut [u32],
+)
+    requires { ⌜ from ≤ length (now s) ⌝ }
+    requires { ⌜ now tokens ≡ builtIn ⌝ }
+    requires { ⌜ Writable base (now s) (attributesF (sound (start .kept) (now table) (start .stored)) (length (now s)) (start .names) (now s) from) start (now table) (now rows) 8 ⌝ }
+    ensures { λ _. ⌜ now (rows .exit) ≡ sets (now (rows .entry)) 8 (words pooled base (now (table .entry)) (attributesF (sound (start .kept) (now (table .entry)) (start .stored)) (length (now (s .entry))) (start .names) (now (s .entry)) from)) ⌝ }
+{
+    let mut at = from;
+    let mut pool = start;
+    let mut to = 8;
+    while at < s.len() {
+        let command = Command::new(tokens, s[at]);
+        let kind = command.0;
+        if kind != Command::ATTRIBUTE {
+            return;
+        }
+        match attribute_at(s, at, false, tokens, table, pool) {
+            ItemRead::Got { item, next } => {
+                put_item(rows, to, pooled, base, table, item);
+                pool = after_item(pool, item);
+                at = next;
+                to += 8;
+            }
+            ItemRead::Short(_) => {
+                return;
+            }
+            ItemRead::Refused(_) => {
+                return;
+            }
+        }
+    }
+}
+
+// The rows of the event.
+fn write(
+    s: &[u8],
+    pooled: u32,
+    base: usize,
+    tokens: &[u16; 256],
+    table: &[u32],
+    pool: Pool,
+    rows: &mut [u32],
+)
+    requires { ⌜ now tokens ≡ builtIn ⌝ }
+    requires { ⌜ Writable base (now s) (event (sound (pool .kept) (now table) (pool .stored)) (pool .names) (now s)) pool (now table) (now rows) 0 ⌝ }
+    ensures { λ _. ⌜ now (rows .exit) ≡ sets (now (rows .entry)) 0 (words pooled base (now (table .entry)) (event (sound (pool .kept) (now (table .entry)) (pool .stored)) (pool .names) (now (s .entry)))) ⌝ }
+{
+    match first_at(s, false, tokens, table, pool) {
+        ItemRead::Got { item, next } => {
+            put_item(rows, 0, pooled, base, table, item);
+            let kind = item.kind;
+            if kind == Command::START_TAG {
+                write_rest(
+                    s,
+                    next,
+                    pooled,
+                    base,
+                    tokens,
+                    table,
+                    after_item(pool, item),
+                    rows,
+                );
+            }
+        }
+        ItemRead::Short(_) => {}
+        ItemRead::Refused(_) => {}
+    }
+}
+
+// ---- one event
+
+pub enum Stepped {
+    Event {
+        rows: usize,
+        len: usize,
+        added: usize,
+        bytes: usize,
+    },
+    Incomplete,
+    Refused(Refusal),
+}
+
+// The rows and names of an event whose new names stay where they are.
+fn write_there(
+    s: &[u8],
+    base: usize,
+    tokens: &[u16; 256],
+    table: &mut [u32],
+    pool: Pool,
+    rows: &mut [u32],
+)
+    requires { ⌜ now tokens ≡ builtIn ⌝ }
+    requires { ⌜ Writable base (now s) (event (sound (pool .kept) (now table) (pool .stored)) (pool .names) (now s)) pool (now table) (now rows) 0 ⌝ }
+    ensures { λ _. ⌜ There base (event (sound (pool .kept) (now (table .entry)) (pool .stored)) (pool .names) (now (s .entry))) (pool .names) (now (table .entry)) (now (table .exit)) (now (rows .entry)) (now (rows .exit)) ⌝ }
+{
+    keep(s, base, tokens, table, pool);
+    write(s, 0, base, tokens, table, pool, rows)
+}
+
+// The rows and names of an event whose new names are copied to the store, from a place on.
+fn write_copied(
+    s: &[u8],
+    base: usize,
+    tokens: &[u16; 256],
+    table: &mut [u32],
+    pool: Pool,
+    added: usize,
+    store: &mut [u8],
+    used: usize,
+    rows: &mut [u32],
+)
+    requires { ⌜ now tokens ≡ builtIn ⌝ }
+    requires { ⌜ Writable base (now s) (event (sound (pool .kept) (now table) (pool .stored)) (pool .names) (now s)) pool (now table) (now rows) 0 ⌝ }
+    requires { ⌜ Copyable (event (sound (pool .kept) (now table) (pool .stored)) (pool .names) (now s)) (pool .names) added (now store) used ⌝ }
+    ensures { λ _. ⌜ Copied base (now (s .entry)) (event (sound (pool .kept) (now (table .entry)) (pool .stored)) (pool .names) (now (s .entry))) (pool .names) used (now (table .entry)) (now (table .exit)) (now (store .entry)) (now (store .exit)) (now (rows .entry)) (now (rows .exit)) ⌝ }
+{
+    keep(s, 0, tokens, table, pool);
+    let names = pool.names;
+    copy_names(s, table, names, added, store, used);
+    write(s, 1, base, tokens, table, pool, rows)
+}
+
+// The two passes over the event that stands in s.
+fn read(
+    s: &[u8],
+    base: usize,
+    finished: bool,
+    copied: bool,
+    tokens: &[u16; 256],
+    pool: Pool,
+    used: usize,
+    table: &mut [u32],
+    store: &mut [u8],
+    rows: &mut [u32],
+) -> Stepped
+    requires { ⌜ now tokens ≡ builtIn ⌝ }
+    requires { ⌜ Ready base copied pool used (now s) (now table) (now store) ⌝ }
+    ensures { λ r. ⌜ stepOf (now (table .exit)) (now (store .exit)) (now (rows .exit)) r ≡ readBy finished copied base pool used (now (s .entry)) (now (table .entry)) (now (store .entry)) (now (rows .entry)) ⌝ }
+{
+    let m = measure(s, finished, tokens, table, pool);
+    let outcome = m.outcome;
+    match outcome {
+        Outcome::Incomplete => Stepped::Incomplete,
+        Outcome::Bad(r) => Stepped::Refused(r),
+        Outcome::Complete(len) => {
+            if rows.len() / 8 < m.rows {
+                return Stepped::Refused(Refusal::new(Refusal::ROWS_FULL));
+            }
+            if table.len() / 2 - pool.names < m.added {
+                return Stepped::Refused(Refusal::new(Refusal::POOL_FULL));
+            }
+            if copied {
+                if store.len() - used < m.bytes {
+                    return Stepped::Refused(Refusal::new(Refusal::NAMES_FULL));
+                }
+                write_copied(s, base, tokens, table, pool, m.added, store, used, rows);
+                return Stepped::Event {
+                    rows: m.rows,
+                    len,
+                    added: m.added,
+                    bytes: m.bytes,
+                };
+            }
+            write_there(s, base, tokens, table, pool, rows);
+            Stepped::Event {
+                rows: m.rows,
+                len,
+                added: m.added,
+                bytes: m.bytes,
+            }
+        }
+    }
+}
+
+// ---- the quick way first
+
+// The first n words of one slice to the front of another.
+fn put_words(rows: &mut [u32], words: &[u32], n: usize)
+    requires { ⌜ n ≤ length (now words) ⌝ }
+    requires { ⌜ n ≤ length (now rows) ⌝ }
+    ensures { λ _. ⌜ now (rows .exit) ≡ sets (now (rows .entry)) 0 (take n (now (words .entry))) ⌝ }
+{
+    let mut i = 0;
+    while i < n {
+        rows[i] = words[i];
+        i += 1;
+    }
+}
+
+// The event that stands in s, read and written in one pass where it is one of the commonest and there is room for its rows. A
+// length of 0: it was not, and nothing is written.
+fn read_quickly(
+    s: &[u8],
+    base: usize,
+    copied: bool,
+    table: &[u32],
+    pool: Pool,
+    rows: &mut [u32],
+) -> Taken
+    requires { ⌜ base + length (now s) ≤ 16_777_216 ⌝ }
+    requires { ⌜ 2 * pool .kept ≤ length (now table) ⌝ }
+    requires { ⌜ pool .kept ≡ pool .names ⌝ }
+    ensures { λ r. ⌜ Quickly (event (sound (pool .kept) (now (table .entry)) (pool .stored)) (pool .names) (now (s .entry))) (pool .names) (cond copied 1 0) base (now (table .entry)) (now (rows .entry)) (now (rows .exit)) r ⌝ }
+{
+    let no = Taken { rows: 0, len: 0 };
+    let mut words = [0u32; 80];
+    let taken = quick::quick(s, base, copied, table, pool, &mut words);
+    if taken.len == 0 {
+        return no;
+    }
+    if rows.len() / 8 < taken.rows {
+        return no;
+    }
+    put_words(rows, &words, 8 * taken.rows);
+    taken
+}
+
+// No store that a span lies in is longer.
+const LIMIT: usize = 16_777_216;
+
+fn is_too_long(base: usize, len: usize, copied: bool, store: usize) -> bool
+    ensures { λ r. ⌜ r ≡ tooLong base len copied store ⌝ }
+{
+    if LIMIT < base {
+        return true;
+    }
+    if LIMIT - base < len {
+        return true;
+    }
+    if copied {
+        return LIMIT < store;
+    }
+    false
+}
+
+fn is_outside(words: usize, names: usize, copied: bool, used: usize, store: usize) -> bool
+    ensures { λ r. ⌜ r ≡ outside words names copied used store ⌝ }
+{
+    if words / 2 < names {
+        return true;
+    }
+    if copied {
+        return store < used;
+    }
+    false
+}
+
+// How many bytes the store of the pool's names has.
+fn stored_in(copied: bool, store: usize, end: usize) -> usize
+    ensures { λ r. ⌜ r ≡ cond copied store end ⌝ }
+{
+    if copied {
+        return store;
+    }
+    end
+}
+
+// The event that stands in s, read and, where there is room, written. s lies in its store from base on. Where names are
+// copied, they go to the name store, of which so many bytes are used; else they stay in the store of s, and the name store is
+// not looked at.
+pub fn step(
+    s: &[u8],
+    base: usize,
+    finished: bool,
+    copied: bool,
+    names: usize,
+    used: usize,
+    table: &mut [u32],
+    store: &mut [u8],
+    rows: &mut [u32],
+) -> Stepped
+    ensures { λ r. ⌜ stepOf (now (table .exit)) (now (store .exit)) (now (rows .exit)) r ≡ step (now (s .entry)) base finished copied names used (now (table .entry)) (now (store .entry)) (now (rows .entry)) ⌝ }
+{
+    if is_too_long(base, s.len(), copied, store.len()) {
+        return Stepped::Refused(Refusal::new(Refusal::BAD_SIZE));
+    }
+    if is_outside(table.len(), names, copied, used, store.len()) {
+        return Stepped::Refused(Refusal::new(Refusal::BAD_STATE));
+    }
+    let pool = Pool {
+        kept: names,
+        stored: stored_in(copied, store.len(), base + s.len()),
+        names,
+    };
+    let taken = read_quickly(s, base, copied, table, pool, rows);
+    if taken.len != 0 {
+        return Stepped::Event {
+            rows: taken.rows,
+            len: taken.len,
+            added: 0,
+            bytes: 0,
+        };
+    }
+    let tokens = wire::tokens::built_in();
+    read(
+        s,
+        base,
+        finished,
+        copied,
+        &tokens,
+        pool,
+        used,
+        table,
+        store,
+        rows,
+    )
 }

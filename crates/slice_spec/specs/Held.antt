@@ -11,12 +11,12 @@ use lib.Dec.{ltb}
 use Rattle.event.specs.Span.{part, span}
 use Rattle.grammar.specs.Grammar.{Span}
 use Rattle.grammar.specs.Document.{Pool, all, bytesAt}
-use Rattle.grammar.specs.Scan.{sound}
+use Rattle.grammar.specs.Scan.{sound, pairs}
 use Rattle.grammar.specs.Choice.{byTest}
 use Rattle.grammar.specs.Added.{these, AllIn}
 use Rattle.grammar.specs.Said.{Finds}
+use Rattle.grammar.specs.Stores.{pairs-length}
 use Rattle.grammar.specs.Stores as Stores
-use Rattle.slice_spec.specs.Slice.{pairs}
 
 -- entry i's pair names these bytes of the document
 pub record Entry (document table : List ℕ) (i : ℕ) (name : List ℕ) : Type 0 where
@@ -63,11 +63,6 @@ held-add document pool names table start len h ht hd =
 
 held-cast : (document : List ℕ) (p q : Pool) (n m : ℕ) (t u : List ℕ) → p ≡ q → n ≡ m → t ≡ u → Held document p n t → Held document q m u
 held-cast document p q n m t u e₁ e₂ e₃ h = rw (← e₁, ← e₂, ← e₃) h
-
-pub pairs-length : (base : ℕ) (ts : List Span) → length (pairs base ts) ≡ 2 * length ts
-unfolding pairs
-pairs-length base [] = refl
-pairs-length base (t ∷ ts) = omega (arith, pairs-length base ts)
 
 -- the names of an event that starts at `base` join
 pub held-adds : (document : List ℕ) (base : ℕ) (ts : List Span) (pool : Pool) (names : ℕ) (table : List ℕ) → base ≤ length document

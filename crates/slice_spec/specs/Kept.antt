@@ -9,11 +9,11 @@ use lib.ListN.{length, take, drop, length-append}
 use lib.Seq.{sets, sets-eq, length-sets, take-at, drop-at, length-take-le}
 use lib.Dec.{ltb, eqb}
 use Rattle.grammar.specs.Grammar.{Span, Items}
-use Rattle.grammar.specs.Scan.{adds, count, words, Outcome, complete, incomplete, bad, outcome}
+use Rattle.grammar.specs.Scan.{adds, pairs, count, words, Outcome, complete, incomplete, bad, outcome}
 use Rattle.grammar.specs.Choice.{cond-by}
-use Rattle.slice_spec.specs.Held.{pairs-length}
+use Rattle.grammar.specs.Stores.{pairs-length}
 use Rattle.slice_spec.specs.Standing.{words-eight}
-use Rattle.slice_spec.specs.Slice.{Place, sizesBad, placeBad, itemsAt, pairs, tableAfter, placeAfter, Answer, gives, end, Left, unchanged, given, handOut, byOutcome, nextFrom, next}
+use Rattle.slice_spec.specs.Slice.{Place, sizesBad, placeBad, itemsAt, tableAfter, placeAfter, Answer, gives, end, Left, unchanged, given, handOut, byOutcome, nextFrom, next}
 
 -- ---- words stored from a place on leave those before and after them
 

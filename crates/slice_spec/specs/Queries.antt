@@ -10,8 +10,8 @@ use Rattle.wire.specs.Refusal.{rowsFull, poolFull, badSize, badState}
 use Rattle.event.specs.Span.{same}
 use Rattle.event.specs.Row.{rowAt}
 use Rattle.grammar.specs.Grammar.{Span, Items, item, whole, lacks, stops}
-use Rattle.grammar.specs.Scan.{adds, count, words, Outcome, complete, incomplete, bad, outcome}
-use Rattle.slice_spec.specs.Slice.{Place, sizesBad, placeBad, itemsAt, pairs, tableAfter, placeAfter}
+use Rattle.grammar.specs.Scan.{adds, pairs, count, words, Outcome, complete, incomplete, bad, outcome}
+use Rattle.slice_spec.specs.Slice.{Place, sizesBad, placeBad, itemsAt, tableAfter, placeAfter}
 
 -- what is asked for: the names of an element and of an attribute, as bytes
 pub data Query : Type 0 where

@@ -126,5 +126,5 @@ pub runs : (map (λ c. answers fresh document (c .table) (c .lent)) nexts ≡ ma
     × (map (λ c. ask document (c .table) (c .rows) (c .query)) cases ≡ map (λ c. c .asked) cases)
     × (map (λ c. ask itself (c .table) (c .rows) (c .query)) spaces ≡ map (λ c. c .asked) spaces)
     × (map (ask broken [] []) (find-attribute p v ∷ all-attributes-of p ∷ []) ≡ stops)
-unfolding nexts cases itself spaces broken stops answers ask document U.octets U.wellFormed Header.u32At Token.command Token.type Span.part Span.span Span.same Row.shapes Row.shape Row.hasName Row.valueAt Row.rowAt Row.rowsAt G.most G.byte G.u16 G.u32 G.u64 G.raw G.utf8 G.blob G.string G.counted G.after G.countedName G.countedValue G.shaped G.name G.value G.attribute G.first G.attributesF G.event D.bytesAt D.typeOf Scan.sound Scan.addsRef Scan.addsName Scan.addsValue Scan.addsItem Scan.adds Scan.count Scan.spanWords Scan.refWords Scan.nameWords Scan.valueWords Scan.itemWords Scan.words Scan.outcome S.sizesBad S.placeBad S.itemsAt S.pairs S.tableAfter S.placeAfter S.given S.handOut S.byOutcome S.nextFrom S.next Q.split Q.named Q.isElement Q.allNamed Q.firstNamed Q.picks Q.picked Q.single Q.after Q.concat Q.past Q.byStep Q.consume Q.kindOf Q.tableWith Q.writes Q.byOutcome Q.queryF Q.query
+unfolding nexts cases itself spaces broken stops answers ask document U.octets U.wellFormed Header.u32At Token.command Token.type Span.part Span.span Span.same Row.shapes Row.shape Row.hasName Row.valueAt Row.rowAt Row.rowsAt G.most G.byte G.u16 G.u32 G.u64 G.raw G.utf8 G.blob G.string G.counted G.after G.countedName G.countedValue G.shaped G.name G.value G.attribute G.first G.attributesF G.event D.bytesAt D.typeOf Scan.sound Scan.addsRef Scan.addsName Scan.addsValue Scan.addsItem Scan.adds Scan.count Scan.spanWords Scan.refWords Scan.nameWords Scan.valueWords Scan.itemWords Scan.words Scan.outcome S.sizesBad S.placeBad S.itemsAt Scan.pairs S.tableAfter S.placeAfter S.given S.handOut S.byOutcome S.nextFrom S.next Q.split Q.named Q.isElement Q.allNamed Q.firstNamed Q.picks Q.picked Q.single Q.after Q.concat Q.past Q.byStep Q.consume Q.kindOf Q.tableWith Q.writes Q.byOutcome Q.queryF Q.query
 runs = (refl, refl, refl, refl)

@@ -1,6 +1,6 @@
 -- The slice reader's calls, as functions of the place and of what is lent: document 01, "Slice reader and queries".
 use mathlib.Core.Bool.{Bool, true, _||_, cond}
-use mathlib.Core.List.{List, [], _∷_}
+use mathlib.Core.List.{List}
 use Prim.Native.Nat.{ℕ, _+_, _*_, _/_, _%_}
 use lib.ListN.{length, drop}
 use lib.Seq.{sets}
@@ -9,7 +9,7 @@ use Rattle.wire.specs.Header.{Check, header}
 use Rattle.wire.specs.Header as Header
 use Rattle.wire.specs.Refusal.{rowsFull, poolFull, badSize, badState}
 use Rattle.grammar.specs.Grammar.{Span, Items, event}
-use Rattle.grammar.specs.Scan.{sound, adds, count, words, Outcome, complete, incomplete, bad, outcome}
+use Rattle.grammar.specs.Scan.{sound, adds, pairs, count, words, Outcome, complete, incomplete, bad, outcome}
 
 -- where the next event starts in the document, and how many pairs of the pool table are names
 pub record Place : Type 0 where
@@ -46,12 +46,7 @@ create document table = cond (sizesBad document table) (refused badSize 0) (byHe
 unfoldable pub itemsAt : Place → List ℕ → List ℕ → Items
 itemsAt p document table = event (sound (p .names) table (length document)) (p .names) (drop (p .at) document)
 
--- the pairs of new names, which lie in the document itself; `base` is where the event starts
-unfoldable pub pairs : ℕ → List Span → List ℕ
-pairs base [] = []
-pairs base (t ∷ ts) = (base + t .start) ∷ t .len ∷ pairs base ts
-
--- the table with an event's new names, and the place after an event of n bytes
+-- the table with an event's new names, which lie in the document itself, and the place after an event of n bytes
 unfoldable pub tableAfter : Place → List ℕ → List Span → List ℕ
 tableAfter p table ts = sets table (2 * p .names) (pairs (p .at) ts)
 

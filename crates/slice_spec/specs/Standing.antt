@@ -11,7 +11,7 @@ use lib.Dec.{eqb}
 use Rattle.event.specs.Row.{Event, rowsAt}
 use Rattle.grammar.specs.Grammar.{Span, Items, item, whole, lacks, stops, event}
 use Rattle.grammar.specs.Document.{Pool, all, rowsOf, poolOf, One, one, refused, ending, readOne, reads, ended, stopped, readF}
-use Rattle.grammar.specs.Scan.{adds, count, words, Outcome, complete, incomplete, bad, outcome}
+use Rattle.grammar.specs.Scan.{adds, pairs, count, words, Outcome, complete, incomplete, bad, outcome}
 use Rattle.grammar.specs.Choice.{byTest}
 use Rattle.grammar.specs.Laws.{Agree, agree-event}
 use Rattle.grammar.specs.Steps.{readS, Reads-on}
@@ -19,7 +19,7 @@ use Rattle.grammar.specs.Outcomes.{complete-reads-on, incomplete-last}
 use Rattle.grammar.specs.Added.{these, AllIn, adds-in, grown, pool-adds}
 use Rattle.grammar.specs.Said.{rows-say, words-length}
 use Rattle.grammar.specs.Remaining.{count-rows}
-use Rattle.slice_spec.specs.Slice.{Place, itemsAt, pairs, tableAfter}
+use Rattle.slice_spec.specs.Slice.{Place, itemsAt, tableAfter}
 use Rattle.slice_spec.specs.Queries.{tableWith}
 use Rattle.slice_spec.specs.Held.{Held, held-adds, held-with, held-finds, sound-all}
 

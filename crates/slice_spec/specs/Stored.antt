@@ -7,43 +7,14 @@ use Prim.Native.Nat.{ℕ, _+_, _*_, _≤_}
 use native.Mathlib.Omega.{arith}
 use lib.ListN.{length, take, drop, length-append, List·getD-append}
 use lib.Seq.{sets-eq, length-take-le}
-use lib.Dec.{ltb}
 use Rattle.event.specs.declared.Shape.{Shape}
-use Rattle.grammar.specs.Grammar.{Span, Ref, new, known, Value, Item, Items, item, whole, lacks, stops, most, counted, countedName, countedValue, after}
-use Rattle.grammar.specs.Scan.{sound, addsRef, addsName, addsValue, addsItem, adds, spanWords, refWords, nameWords, valueWords, itemWords, words}
-use Rattle.grammar.specs.Choice.{byTest}
+use Rattle.grammar.specs.Grammar.{Span, Ref, new, known, Value, Item, Items, item, whole, lacks, stops, countedName, after}
+use Rattle.grammar.specs.Scan.{sound, pairs, addsName, addsValue, addsItem, adds, spanWords, refWords, nameWords, valueWords, itemWords, words}
+use Rattle.grammar.specs.Added.{countedName-adds, countedValue-adds, after-adds}
 use Rattle.grammar.specs.Laws.{RefFits, NameFits, ValueFits, Agree, agree-event}
-use Rattle.slice_spec.specs.Slice.{Place, itemsAt, pairs, tableAfter}
+use Rattle.slice_spec.specs.Slice.{Place, itemsAt, tableAfter}
 use Rattle.slice_spec.specs.Queries.{tableWith}
-use Rattle.slice_spec.specs.Held.{pairs-length}
-
--- ---- the pool's count and the names that join it
-
-counted-adds : (k : ℕ) (r : Ref) → counted k r ≡ k + length (addsRef k r)
-unfolding counted addsRef
-counted-adds k (new t) = byTest (ltb k most) (λ b. rw b) (λ b. rw b (omega arith))
-counted-adds k (known i) = omega arith
-
-name-adds : (k : ℕ) (r : Option Ref) → countedName k r ≡ k + length (addsName k r)
-unfolding countedName addsName
-name-adds k none = omega arith
-name-adds k (some r) = counted-adds k r
-
-value-adds : (k : ℕ) (v : Value) → countedValue k v ≡ k + length (addsValue k v)
-unfolding countedValue addsValue
-value-adds k Value.nothing = omega arith
-value-adds k Value.empty = omega arith
-value-adds k (Value.span t) = omega arith
-value-adds k (Value.interned r) = counted-adds k r
-value-adds k (Value.word w) = omega arith
-value-adds k (Value.pair a b) = omega arith
-
-item-adds : (k : ℕ) (i : Item) → after k i ≡ k + length (addsItem k i)
-unfolding after addsItem
-item-adds k i =
-    let a : List Span = addsName k (i .name) in
-    let b : List Span = addsValue (countedName k (i .name)) (i .value) in
-    omega (arith, value-adds (countedName k (i .name)) (i .value), name-adds k (i .name), length-append a b)
+use Rattle.grammar.specs.Stores.{pairs-length}
 
 -- ---- words by the beginning of a table
 
@@ -75,9 +46,9 @@ module _ (pooled base : ℕ) (u rest : List ℕ) where
       let c : List Span = addsValue (countedName k (i .name)) (i .value) in
       let l₁ = length-append (b ++ c) (adds (after k i) is) in
       let l₂ = length-append b c in
-      let n = name-adds k (i .name) in
-      let v = value-adds (countedName k (i .name)) (i .value) in
-      let m = item-adds k i in
+      let n = countedName-adds k (i .name) in
+      let v = countedValue-adds (countedName k (i .name)) (i .value) in
+      let m = after-adds k i in
       let q : length (addsItem k i) ≡ length (b ++ c) = refl in
       rw (
         name-front (length s) k (i .name) (a .0 .name-fits) (omega arith),

@@ -16,8 +16,7 @@ use Rattle.grammar.specs.Laws.{part-append}
 use Rattle.grammar.specs.Added.{these, AllIn, bytesAt-length}
 use Rattle.grammar.specs.Said.{Finds}
 use Rattle.grammar.specs.Stores.{sets-append}
-use Rattle.grammar.specs.Scan.{lengths}
-use Rattle.stream_spec.specs.Stream.{pairs, joined}
+use Rattle.grammar.specs.Scan.{lengths, copiedPairs, joined}
 
 pub poolBytes-append : (a b : Pool) → poolBytes (a ++ b) ≡ poolBytes a + poolBytes b
 poolBytes-append [] b = omega arith
@@ -88,8 +87,8 @@ held-cast p p′ n n′ b b′ t t′ s s′ e₁ e₂ e₃ e₄ e₅ h = rw (�
 -- the names of an event join
 pub held-adds : (s : List ℕ) (ts : List Span) (pool : Pool) (names bytes : ℕ) (table store : List ℕ) → AllIn (length s) ts → Held pool names bytes table store
     → 2 * (names + length ts) ≤ length table → bytes + lengths ts ≤ length store
-    → Held (pool ++ these s ts) (names + length ts) (bytes + lengths ts) (sets table (2 * names) (pairs bytes ts)) (sets store bytes (joined s ts))
-unfolding lengths pairs joined
+    → Held (pool ++ these s ts) (names + length ts) (bytes + lengths ts) (sets table (2 * names) (copiedPairs bytes ts)) (sets store bytes (joined s ts))
+unfolding lengths copiedPairs joined
 held-adds s [] pool names bytes table store a h ht hs = rw (append-nil pool, add-zero names, add-zero bytes) h
 held-adds s (t ∷ ts) pool names bytes table store a h ht hs =
     let b : List ℕ = bytesAt s t in
@@ -99,7 +98,7 @@ held-adds s (t ∷ ts) pool names bytes table store a h ht hs =
     let more = held-adds s ts (pool ++ (b ∷ [])) (names + 1) (bytes + length b) _ _ (a .1) one (simp length-set (omega arith)) (simp length-sets (omega arith)) in
     held-cast _ _ _ _ _ _ _ _ _ _
     (append-assoc pool (b ∷ []) (these s ts)) (omega arith) (omega arith)
-    (rw e (ap (λ (k : ℕ). sets (set (set table (2 * names) bytes) (suc (2 * names)) (t .len)) k (pairs (bytes + t .len) ts)) (omega arith)))
+    (rw e (ap (λ (k : ℕ). sets (set (set table (2 * names) bytes) (suc (2 * names)) (t .len)) k (copiedPairs (bytes + t .len) ts)) (omega arith)))
     (sym (sets-append store bytes b (joined s ts)))
     more
 

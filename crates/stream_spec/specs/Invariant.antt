@@ -13,7 +13,7 @@ use Rattle.wire.specs.Header.{u32At, magic}
 use Rattle.event.specs.Row.{Event, rowsAt}
 use Rattle.grammar.specs.Grammar.{Span, Items, event}
 use Rattle.grammar.specs.Document.{Pool, all, rowsOf, poolOf, Reading, read, readF, events, sizes, total}
-use Rattle.grammar.specs.Scan.{lengths, sound, complete, outcome, adds, count, words}
+use Rattle.grammar.specs.Scan.{lengths, copiedPairs, joined, sound, complete, outcome, adds, count, words}
 use Rattle.grammar.specs.Choice.{byTest}
 use Rattle.grammar.specs.Laws.{Agree, agree-event}
 use Rattle.grammar.specs.Steps.{chain, chain-snoc, events-chain, sizes-chain, read-passed, readS, Open, Reads-on}
@@ -21,7 +21,7 @@ use Rattle.grammar.specs.Outcomes.{complete-reads-on}
 use Rattle.grammar.specs.Added.{pool-adds, adds-in}
 use Rattle.grammar.specs.Said.{rows-say, words-length}
 use Rattle.grammar.specs.Stores as Stores
-use Rattle.stream_spec.specs.Stream.{Stream, Lent, Created, created, fresh, sizesBad, create, fitting, fed, feed, finish, given, next, nextFrom, pairs, joined, passed}
+use Rattle.stream_spec.specs.Stream.{Stream, Lent, Created, created, fresh, sizesBad, create, fitting, fed, feed, finish, given, next, nextFrom, passed}
 use Rattle.stream_spec.specs.Branches.{feed-by, finish-by, next-by, nextFrom-by}
 use Rattle.stream_spec.specs.Calls.{Call, call-feed, call-next, call-finish, Trace, acceptedBy, handedBy, headerBy, endedBy, afterFeed, afterNext, afterFinish, step, run, start, consumed, Sound}
 use Rattle.stream_spec.specs.Held.{Held, held-adds, held-finds}
@@ -167,7 +167,7 @@ handed-out t rows from p is n e o going c₁ c₂ c₃ =
     let s : List ℕ = slice from (r .end) (l .window) in
     let pool : Pool = p .pool in
     let ts : List Span = adds (r .names) is in
-    let table : List ℕ = sets (l .table) (2 * r .names) (pairs (r .bytes) ts) in
+    let table : List ℕ = sets (l .table) (2 * r .names) (copiedPairs (r .bytes) ts) in
     let store : List ℕ = sets (l .store) (r .bytes) (joined s ts) in
     let ws : List ℕ = words 1 from table is in
     let counts : r .names ≡ length pool = p .held .counts in

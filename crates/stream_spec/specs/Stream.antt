@@ -8,8 +8,7 @@ use lib.Dec.{ltb, eqb}
 use Rattle.wire.specs.Header.{u32At, magic}
 use Rattle.wire.specs.Refusal.{headerShort, invalidMagic, rowsFull, poolFull, namesFull, windowFull, badSize, alreadyFinished, badState}
 use Rattle.grammar.specs.Grammar.{Span, Items, event}
-use Rattle.grammar.specs.Document.{bytesAt}
-use Rattle.grammar.specs.Scan.{sound, adds, lengths, count, words, Outcome, complete, incomplete, bad, outcome}
+use Rattle.grammar.specs.Scan.{sound, adds, lengths, copiedPairs, joined, count, words, Outcome, complete, incomplete, bad, outcome}
 
 -- the bytes of the window from `start` to `end` wait; the pool table has `names` pairs, the name store `bytes` bytes; whether
 -- the header was passed, and whether a finish said that no more will come
@@ -112,20 +111,10 @@ finish r l = checked r l [] (cond (r .finished) (unchanged r l [] (refused alrea
 
 -- ---- next: an event that was read whole is handed out, where there is room, and its names are kept
 
--- the pairs of new names whose bytes are appended to the name store from a place on
-unfoldable pub pairs : ℕ → List Span → List ℕ
-pairs at [] = []
-pairs at (t ∷ ts) = at ∷ t .len ∷ pairs (at + t .len) ts
-
--- these bytes
-unfoldable pub joined : List ℕ → List Span → List ℕ
-joined s [] = []
-joined s (t ∷ ts) = bytesAt s t ++ joined s ts
-
 -- `is` are the rows of the event that stands in the window from `from` on and has n bytes, `ts` the names that it adds
 unfoldable pub given : Stream → Lent → List ℕ → ℕ → Items → ℕ → List Span → Left
 given r l rows from is n ts =
-    let table : List ℕ = sets (l .table) (2 * r .names) (pairs (r .bytes) ts) in
+    let table : List ℕ = sets (l .table) (2 * r .names) (copiedPairs (r .bytes) ts) in
     record {
       reply = gives (count is);
       stream =

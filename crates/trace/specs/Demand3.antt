@@ -1,4 +1,6 @@
--- Demand 3, proved: the reader's invariant, the round trip and the writer's law put together.
+-- Demand 3, proved: the reader's invariant, the round trip and the writer's law put together. The links to the code: the claim is
+-- Trace.antt's; a list of calls is `run` of stream_spec's Calls.antt, whose every step is `feed`, `next` or `finish` of its
+-- Stream.antt; and the promises of stream's create, feed, finish and next are equations to these, for every state and buffer.
 use mathlib.Core.Option.{some}
 use mathlib.Core.List.{List}
 use mathlib.Core.Path.{_≡_, sym, ap, _∙_}

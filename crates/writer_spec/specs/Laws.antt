@@ -1,5 +1,5 @@
 -- The laws of the writer's calls: a refused call changes nothing, and any other leaves `encode` of the events so far.
-use mathlib.Core.Bool.{Bool, true, false, _||_, not, cond, false≢true}
+use mathlib.Core.Bool.{Bool, true, false, not, cond, false≢true}
 use mathlib.Core.Option.{none, some}
 use mathlib.Core.List.{List, [], _∷_, _++_}
 use mathlib.Core.Path.{_≡_, refl, sym, ap}
@@ -14,6 +14,7 @@ use Rattle.wire.specs.Refusal.{notRows}
 use Rattle.event.specs.Row.{Row, Event, rowAt, rowsAt}
 use Rattle.event.specs.Words.{rowsForm, listForms, eventForms, attributesOnly, single}
 use Rattle.event.specs.Laws.{both}
+use Rattle.grammar.specs.Choice.{neither}
 use Rattle.grammar.specs.Document.{Pool}
 use Rattle.writer_spec.specs.Encode.{rowsBytes, keepRows, flat, encode}
 use Rattle.writer_spec.specs.Faults.{rowsFault, glue, group}
@@ -173,10 +174,6 @@ pool-count : (output : List ℕ) (n : ℕ) (pairs : List ℕ) → length (poolAt
 unfolding poolAt
 pool-count output zero pairs = refl
 pool-count output (suc n) pairs = ap suc (pool-count output n (drop 2 pairs))
-
-neither : (a b : Bool) → (a || b) ≡ false → (a ≡ false) × (b ≡ false)
-neither true b h = absurd (false≢true (sym h))
-neither false b h = (refl, h)
 
 module _ (formed : Bool) (w w′ : Writer) (l : Lent) (rs : List Row) (e : write formed w l rs .reply ≡ wrote w′) where
   abbrev pool : Pool

@@ -1,0 +1,77 @@
+-- An event that the quick way took, its words put to the rows, and the step's answer then.
+use mathlib.Core.Bool.{Bool, false, cond}
+use mathlib.Core.List.{List, [], _++_}
+use mathlib.Core.Path.{_≡_, sym, ap, _∙_}
+use Prim.Native.Nat.{ℕ, _+_, _*_, _/_, _≤_, _<_}
+use native.Mathlib.Omega.{arith}
+use borrow.Author.Tests.{le-ltb}
+use lib.ListN.{length, take, drop}
+use lib.Seq.{sets, sets-eq, length-sets, take-at}
+use Rattle.grammar.specs.Choice.{byTest}
+use Rattle.grammar.specs.Grammar.{Span, Items, event}
+use Rattle.grammar.specs.Scan.{sound, adds, lengths, pairs, copiedPairs, joined, count, words, Outcome}
+use Rattle.scanner.specs.declared.quick.Taken.{Taken}
+use Rattle.scanner.specs.Quick.{ReadEvent}
+use Rattle.scanner.specs.Step.{gives, Left, written, handOut, byOutcome, step, tooLong, outside, Quickly, declined, taken, readBy}
+use Rattle.scanner.proofs.Walk.{words-long}
+use Rattle.scanner.proofs.Stepping.{not-outside, step-read}
+
+module _ (is : Items) (names source base : ℕ) (table ws ws₁ : List ℕ) (t : Taken) (r : ReadEvent is names source base table ws ws₁ t) (l : length ws ≡ 80) where
+  abbrev its : List ℕ
+  its = words source base table is
+
+  its-length : length its ≡ 8 * t .rows
+  its-length = words-long source base table is ∙ ap (λ (x : ℕ). 8 * x) (r .counted)
+
+  pub quick-long : 80 ≡ length ws₁
+  quick-long = sym (ap length (r .stored) ∙ length-sets ws 0 its ∙ l)
+
+  pub quick-fits : 8 * t .rows ≤ length ws₁
+  quick-fits = omega (arith, quick-long, r .few)
+
+  pub quick-taken : (rows rows₁ : List ℕ) → 0 < t .len → t .rows ≤ length rows / 8 → rows₁ ≡ sets rows 0 (take (8 * t .rows) ws₁) → Quickly is names source base table rows rows₁ t
+  quick-taken rows rows₁ h k e =
+      let z : 0 + length its ≤ length ws = omega (arith, its-length, r .few) in
+      let x : ws₁ ≡ its ++ drop (0 + length its) ws = r .stored ∙ sets-eq its ws 0 z in
+      let w : take (8 * t .rows) ws₁ ≡ its = ap (λ (v : List ℕ). take (8 * t .rows) v) x ∙ take-at its (drop (0 + length its) ws) (8 * t .rows) its-length in
+      taken h (r .ends) (r .counted) k (r .none-new) (e ∙ ap (λ (v : List ℕ). sets rows 0 v) w)
+
+module _ (s : List ℕ) (base : ℕ) (finished copied : Bool) (names used : ℕ) (table store rows rows₁ : List ℕ) (stored : ℕ) (t : Taken) where
+  abbrev is : Items
+  is = event (sound names table stored) names s
+
+  abbrev Quick : Type 0
+  Quick = Quickly is names (cond copied 1 0) base table rows rows₁ t
+
+  -- nothing was taken
+  pub not-taken : Quick → t .len ≡ 0 → rows₁ ≡ rows
+  not-taken (declined a b) e = b
+  not-taken (taken h a b c d f) e = absurd (omega arith)
+
+  module _ (e : tooLong base (length s) copied (length store) ≡ false) (f : outside (length table) names copied used (length store) ≡ false)
+      (g : stored ≡ cond copied (length store) (base + length s)) where
+    abbrev by : Outcome → Left
+    by = byOutcome s base finished copied names used table store rows is
+
+    complete-is : (ts : List Span) → ts ≡ [] → count is ≡ t .rows → t .rows ≤ length rows / 8 → rows₁ ≡ sets rows 0 (words (cond copied 1 0) base table is)
+        → record { reply = gives (t .rows) (t .len) 0 0; table = table; store = store; rows = rows₁ } ≡ handOut s base finished copied names used table store rows is (t .len) ts
+    unfolding handOut written lengths pairs copiedPairs joined
+    complete-is ts q b c d =
+        let o = not-outside (length table) names copied used (length store) f in
+        let room : 2 * (names + 0) ≤ length table = omega (arith, o .0) in
+        rw (q, b, le-ltb (length rows / 8) (t .rows) c, le-ltb (length table) (2 * (names + 0)) room)
+        (byTest copied
+        (λ k. let bytes : used + 0 ≤ length store = omega (arith, o .1 k) in rw (k, le-ltb (length store) (used + 0) bytes, d, k))
+        (λ k. rw (k, d, k)))
+
+    pub taken-is : Quick → (t .len ≡ 0 → ⊥) → record { reply = gives (t .rows) (t .len) 0 0; table = table; store = store; rows = rows₁ } ≡ step s base finished copied names used table store rows
+    unfolding step byOutcome
+    taken-is (declined a b) n = absurd (n a)
+    taken-is (taken h a b c d q) n =
+        complete-is (adds names is) d b c q ∙ ap by (sym (a finished)) ∙ rw (e, f, ← g)
+
+    pub declined-is : Quick → t .len ≡ 0 → (x : Left) → x ≡ readBy finished copied base (record { kept = names; stored = stored; names = names }) used s table store rows₁
+        → x ≡ step s base finished copied names used table store rows
+    declined-is k n x y =
+        step-read s base finished copied names used table store rows e f stored g x
+        (y ∙ ap (λ (w : List ℕ). readBy finished copied base (record { kept = names; stored = stored; names = names }) used s table store w) (not-taken k n))

@@ -1,0 +1,98 @@
+use mathlib.Core.Bool.{true}
+use mathlib.Core.Path.{refl}
+use Prim.Native.Nat.{_-_, _≤_}
+use native.Mathlib.Omega.{arith}
+use lib.ListN.{length}
+use Rattle.wire.specs.Token.{command}
+use Rattle.event.specs.Row.{shapes}
+use Rattle.grammar.specs.Scan.{sound}
+use Rattle.scanner.specs.Quick.{countOf, countsOf, wordCounts}
+use Rattle.scanner.proofs.Rest.{rest, none-yet, attribute-moves, attribute-within}
+use Rattle.scanner.proofs.Turns.{Left, left-all, left-more, left-other}
+use Rattle.scanner.proofs.quick.rest.Statement.{statement}
+use Rattle.scanner.proofs.quick.rest.Tie as tie
+
+abbrev Inv-loop : tie.InvT-loop
+Inv-loop s from base source table pool words₀ counts at₀ rows₀ words at rows =
+    (at ≤ length s) × (rows ≤ 10)
+    × Left (pool .names) source base table (rest (sound (pool .kept) table (pool .stored)) s (pool .names) from) (rest (sound (pool .kept) table (pool .stored)) s (pool .names) at) 1 rows words₀ words
+
+abbrev μ-loop : tie.MeasureT-loop
+μ-loop s from base source table pool words₀ counts at₀ rows₀ words at rows = length s - at
+
+loop-holds : tie.Need-loop-holds Inv-loop μ-loop
+loop-holds c =
+    let a = c .before .before .args in
+    (c .before .before .pre .0 .0, omega arith, left-all (a .pool .names) (a .source) (a .base) (a .table .now) _ 1 (a .words .now))
+
+shared-slice-read-kind : tie.Need-shared-slice-read-kind Inv-loop μ-loop
+shared-slice-read-kind c = omega arith
+
+cast-kind : tie.Need-cast-kind Inv-loop μ-loop
+cast-kind c = omega (arith, c .shared-slice-known3 .given (c .before .before .loop .at))
+
+returns : tie.Need-returns Inv-loop μ-loop
+unfolding command
+returns c =
+    let a = c .before .before .before .before .before .before .args in
+    let l = c .before .before .before .loop in
+    λ h. left-other (a .pool .names) (a .source) (a .base) (a .table .now) (sound (a .pool .kept) (a .table .now) (a .pool .stored)) (a .s .now) _ (a .words .now) (l .at) (l .rows) (l .words) (omega arith) (l .inv .2) (c .if1 .taken) (l .inv .1)
+
+returns-2 : tie.Need-returns-2 Inv-loop μ-loop
+returns-2 c = λ h. absurd (omega arith)
+
+mul-attribute : tie.Need-mul-attribute Inv-loop μ-loop
+mul-attribute c = omega arith
+
+attribute-requires : tie.Need-attribute-requires Inv-loop μ-loop
+unfolding wordCounts countsOf countOf shapes
+attribute-requires c κs =
+    let p = c .before .before .before .before .before .before .before .before .before .pre in
+    let l = c .before .before .before .before .before .before .loop in
+    ((l .inv .0, p .0 .1), (refl, (p .1 .0, (p .1 .1, omega arith))))
+
+returns-3 : tie.Need-returns-3 Inv-loop μ-loop
+returns-3 c = λ h. absurd (omega arith)
+
+add-rows : tie.Need-add-rows Inv-loop μ-loop
+add-rows c = omega arith
+
+loop-less : tie.Need-loop-less Inv-loop μ-loop
+loop-less c =
+    let a = c .before .before .before .before .before .before .before .before .before .before .before .args in
+    let l = c .before .before .before .before .before .before .before .before .loop in
+    let r = c .before .attribute .ensures (omega arith) in
+    omega (arith, attribute-moves true (a .s .now) (a .table .now) (none-yet (a .pool)) (l .at) (l .inv .0) (omega arith) _ _ (r .is), attribute-within true (a .s .now) (a .table .now) (none-yet (a .pool)) (l .at) (l .inv .0) (omega arith) _ _ (r .is))
+
+loop-again : tie.Need-loop-again Inv-loop μ-loop
+unfolding command
+loop-again c =
+    let a = c .before .before .before .before .before .before .before .before .before .before .before .args in
+    let l = c .before .before .before .before .before .before .before .before .loop in
+    let r = c .before .attribute .ensures (omega arith) in (
+      attribute-within true (a .s .now) (a .table .now) (none-yet (a .pool)) (l .at) (l .inv .0) (omega arith) _ _ (r .is),
+      omega arith,
+      left-more (a .pool .names) (a .source) (a .base) (a .table .now) (sound (a .pool .kept) (a .table .now) (a .pool .stored)) (a .s .now) _ (a .words .now) (l .at) (l .rows) (l .words) (omega arith) (l .inv .2) _ _ (c .before .before .before .before .before .if1 .left) r,
+    )
+
+returns-4 : tie.Need-returns-4 Inv-loop μ-loop
+returns-4 c = λ h. absurd (omega arith)
+
+pub rest-spec : {M : Type 1} → statement M
+rest-spec =
+    tie.close
+    (tie.spec
+    Inv-loop
+    μ-loop
+    loop-holds
+    shared-slice-read-kind
+    cast-kind
+    returns
+    returns-2
+    mul-attribute
+    attribute-requires
+    returns-3
+    add-rows
+    loop-less
+    loop-again
+    returns-4)

@@ -1,0 +1,34 @@
+-- What the code's places and answers say, in the terms of the slice reader's definition.
+use mathlib.Core.List.{List}
+use Prim.Native.Nat.{ℕ, _*_, _≤_}
+use lib.ListN.{length}
+use Rattle.slice_spec.specs.Slice.{Place, Left, Answer, gives, end}
+use Rattle.slice_spec.specs.Slice as Defined
+use Rattle.slice.specs.declared.Place as Coded
+use Rattle.slice.specs.declared.Created.{Created}
+use Rattle.slice.specs.declared.Created.the-variants as Created
+use Rattle.slice.specs.declared.Next.{Next}
+use Rattle.slice.specs.declared.Next.the-variants as Next
+
+abbrev pub placeOf : Coded.Place → Place
+placeOf p = record { at = p .at; names = p .names }
+
+abbrev pub createdOf : Created → Defined.Created
+createdOf (Created.Place p) = Defined.created (placeOf p)
+createdOf (Created.Refused r) = Defined.Created.refused (r .number) (r .detail)
+
+abbrev left : Coded.Place → List ℕ → List ℕ → Answer → Left
+left p table rows a = record { answer = a; place = placeOf p; table = table; rows = rows }
+
+-- an end and a refusal carry no place, and leave that which the call was given
+abbrev pub nextOf : Coded.Place → List ℕ → List ℕ → Next → Left
+nextOf old table rows (Next.Event n p) = left p table rows (gives n)
+nextOf old table rows Next.End = left old table rows end
+nextOf old table rows (Next.Refused r) = left old table rows (Answer.refused (r .number) (r .detail))
+
+-- what holds of a place and of buffers that are not refused
+pub record Fits (p : Place) (document table : List ℕ) : Type 0 where
+  pub at-fits : p .at ≤ length document
+  pub names-fit : 2 * p .names ≤ length table
+  pub document-small : length document ≤ 16_777_216
+  pub table-small : length table ≤ 131_070

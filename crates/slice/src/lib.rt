@@ -1,0 +1,119 @@
+// The slice reader: it reads a document that lies in one slice, event by event. Its state is a place; the document, the pool
+// table and the rows are lent to each call.
+use scanner::Stepped;
+use wire::Header;
+use wire::Refusal;
+ghost use mathlib.Core.Path.{_≡_};
+ghost use Prim.Native.Nat.{_*_, _≤_};
+ghost use lib.ListN.{length};
+ghost use Rattle.slice_spec.specs.Slice.{sizesBad, placeBad, create, nextFrom, next};
+ghost use Rattle.slice.specs.Answers.{placeOf, createdOf, nextOf, Fits};
+
+// Where the next event starts in the document, and how many pairs of the pool table are names.
+pub struct Place {
+    pub at: usize,
+    pub names: usize,
+}
+
+pub enum Created {
+    Place(Place),
+    Refused(Refusal),
+}
+
+pub enum Next {
+    Event { rows: usize, place: Place },
+    End,
+    Refused(Refusal),
+}
+
+const MAX_DOCUMENT: usize = 16_777_216;
+
+const MAX_TABLE: usize = 131_070;
+
+// Whether a buffer has a length that no reader takes.
+fn sizes_bad(document: &[u8], pool: &[u32]) -> bool
+    ensures { λ r. ⌜ r ≡ sizesBad (now (document .entry)) (now (pool .entry)) ⌝ }
+{
+    if MAX_DOCUMENT < document.len() {
+        return true;
+    }
+    if pool.len() % 2 == 1 {
+        return true;
+    }
+    MAX_TABLE < pool.len()
+}
+
+// Whether the place or the count lies outside its buffer. Twice the names may not fit a usize, half the words do.
+fn place_bad(place: Place, document: &[u8], pool: &[u32]) -> bool
+    ensures { λ r. ⌜ r ≡ placeBad (placeOf place) (now (document .entry)) (now (pool .entry)) ⌝ }
+{
+    if document.len() < place.at {
+        return true;
+    }
+    pool.len() / 2 < place.names
+}
+
+// A reader of the document, past its header.
+pub fn create(document: &[u8], pool: &[u32]) -> Created
+    ensures { λ r. ⌜ createdOf r ≡ create (now (document .entry)) (now (pool .entry)) ⌝ }
+{
+    if sizes_bad(document, pool) {
+        return Created::Refused(Refusal::new(Refusal::BAD_SIZE));
+    }
+    match wire::check_magic(document) {
+        Header::Passed => Created::Place(Place { at: 4, names: 0 }),
+        Header::Refused(r) => Created::Refused(r),
+    }
+}
+
+// The event at a place that lies in the document. Its new names stay where they are, so there is no name store.
+fn next_from(place: Place, document: &[u8], pool: &mut [u32], rows: &mut [u32]) -> Next
+    requires { ⌜ Fits (placeOf place) (now document) (now pool) ⌝ }
+    ensures { λ r. ⌜ nextOf place (now (pool .exit)) (now (rows .exit)) r ≡ nextFrom (placeOf place) (now (document .entry)) (now (pool .entry)) (now (rows .entry)) ⌝ }
+{
+    let at = place.at;
+    let names = place.names;
+    if at == document.len() {
+        return Next::End;
+    }
+    let mut store = [0u8; 1];
+    match scanner::step(
+        &document[at..],
+        at,
+        true,
+        false,
+        names,
+        0,
+        pool,
+        &mut store,
+        rows,
+    ) {
+        Stepped::Event {
+            rows: count,
+            len,
+            added,
+            bytes: _,
+        } => Next::Event {
+            rows: count,
+            place: Place {
+                at: at + len,
+                names: names + added,
+            },
+        },
+        Stepped::Incomplete => Next::End,
+        Stepped::Refused(r) => Next::Refused(r),
+    }
+}
+
+// The next event, its rows written from the first word on and its new names to the pool; or the end.
+pub fn next_event(place: Place, document: &[u8], pool: &mut [u32], rows: &mut [u32]) -> Next
+    ensures { λ r. ⌜ nextOf place (now (pool .exit)) (now (rows .exit)) r ≡ next (placeOf place) (now (document .entry)) (now (pool .entry)) (now (rows .entry)) ⌝ }
+{
+    if sizes_bad(document, pool) {
+        return Next::Refused(Refusal::new(Refusal::BAD_SIZE));
+    }
+    if place_bad(place, document, pool) {
+        return Next::Refused(Refusal::new(Refusal::BAD_STATE));
+    }
+    next_from(place, document, pool, rows)
+}

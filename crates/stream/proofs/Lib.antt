@@ -1,0 +1,5 @@
+mod Faults
+mod Window
+mod Closing
+mod Magic
+mod Onward

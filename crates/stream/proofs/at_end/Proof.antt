@@ -1,0 +1,12 @@
+use borrow.Author.Needs.{needs}
+use Rattle.stream.proofs.at_end.Statement.{statement}
+use Rattle.stream.proofs.at_end.Tie as tie
+
+returns : tie.Need-returns
+returns c = rw (c .before .if1 .taken)
+
+returns-2 : tie.Need-returns-2
+returns-2 c = search needs
+
+pub at-end-spec : {M : Type 1} → statement M
+at-end-spec = tie.close (tie.spec returns returns-2)

@@ -1,0 +1,377 @@
+// The chunk reader over buffers that every call lends: a window where bytes wait, a pool table, and a store for the names.
+use scanner::Stepped;
+use wire::Header;
+use wire::Refusal;
+ghost use mathlib.Core.Bool.{_&&_};
+ghost use mathlib.Core.List.{_++_};
+ghost use mathlib.Core.Path.{_≡_};
+ghost use Prim.Native.Nat.{_+_, _-_, _≤_, min};
+ghost use lib.Dec.{eqb};
+ghost use lib.ListN.{length, take, drop};
+ghost use lib.Seq.{paste, slice};
+ghost use Rattle.stream_spec.specs.Stream.{sizesBad, stateBad, create, feed, finish, passed, nextFrom, nextHeader, next};
+ghost use Rattle.stream.specs.Answers.{streamOf, lend, fault, openFault, Fits, Sums, later, checkedOf, createdOf, fedOf, closedOf, answerOf};
+
+// The bytes of the window from start to end wait. The pool table has so many names, the store so many bytes of them.
+pub struct Stream {
+    pub start: usize,
+    pub end: usize,
+    pub names: usize,
+    pub bytes: usize,
+    pub header: bool,
+    pub finished: bool,
+}
+
+// ---- what every call checks first
+
+// The shortest and the longest window, in bytes.
+pub const MIN_WINDOW: usize = 64;
+
+pub const MAX_WINDOW: usize = 1_048_576;
+
+// The longest pool table, in words, and the longest name store, in bytes.
+pub const MAX_TABLE: usize = 131_070;
+
+pub const MAX_STORE: usize = 16_777_216;
+
+// Whether a buffer has a length that no reader takes.
+fn sizes_bad(window: &[u8], table: &[u32], store: &[u8]) -> bool
+    ensures { λ r. ⌜ r ≡ sizesBad (lend (now (window .entry)) (now (table .entry)) (now (store .entry))) ⌝ }
+{
+    if window.len() < MIN_WINDOW {
+        return true;
+    }
+    if MAX_WINDOW < window.len() {
+        return true;
+    }
+    if table.len() % 2 == 1 {
+        return true;
+    }
+    if MAX_TABLE < table.len() {
+        return true;
+    }
+    MAX_STORE < store.len()
+}
+
+// Whether a count or place lies outside its buffer. Twice the names may not fit a usize, half the words do.
+fn state_bad(stream: Stream, window: &[u8], table: &[u32], store: &[u8]) -> bool
+    ensures { λ r. ⌜ r ≡ stateBad (streamOf stream) (lend (now (window .entry)) (now (table .entry)) (now (store .entry))) ⌝ }
+{
+    if stream.end < stream.start {
+        return true;
+    }
+    if window.len() < stream.end {
+        return true;
+    }
+    if table.len() / 2 < stream.names {
+        return true;
+    }
+    store.len() < stream.bytes
+}
+
+// Whether a call may go on, or the number of its refusal.
+pub enum Checked {
+    Passed,
+    Refused(u32),
+}
+
+fn check(stream: Stream, window: &[u8], table: &[u32], store: &[u8]) -> Checked
+    ensures { λ r. ⌜ checkedOf r ≡ fault (streamOf stream) (lend (now (window .entry)) (now (table .entry)) (now (store .entry))) ⌝ }
+{
+    if sizes_bad(window, table, store) {
+        return Checked::Refused(Refusal::BAD_SIZE);
+    }
+    if state_bad(stream, window, table, store) {
+        return Checked::Refused(Refusal::BAD_STATE);
+    }
+    Checked::Passed
+}
+
+// The same for a call that is refused after a finish.
+fn check_open(stream: Stream, window: &[u8], table: &[u32], store: &[u8]) -> Checked
+    ensures { λ r. ⌜ checkedOf r ≡ openFault (streamOf stream) (lend (now (window .entry)) (now (table .entry)) (now (store .entry))) ⌝ }
+{
+    match check(stream, window, table, store) {
+        Checked::Refused(n) => Checked::Refused(n),
+        Checked::Passed => {
+            if stream.finished {
+                return Checked::Refused(Refusal::ALREADY_FINISHED);
+            }
+            Checked::Passed
+        }
+    }
+}
+
+// ---- creation
+
+pub enum Created {
+    Stream(Stream),
+    Refused(Refusal),
+}
+
+// A reader that nothing was fed to yet.
+pub fn create(window: &[u8], table: &[u32], store: &[u8]) -> Created
+    ensures { λ r. ⌜ createdOf r ≡ create (lend (now (window .entry)) (now (table .entry)) (now (store .entry))) ⌝ }
+{
+    if sizes_bad(window, table, store) {
+        return Created::Refused(Refusal::new(Refusal::BAD_SIZE));
+    }
+    Created::Stream(Stream {
+        start: 0,
+        end: 0,
+        names: 0,
+        bytes: 0,
+        header: false,
+        finished: false,
+    })
+}
+
+// ---- feed
+
+// Moves the bytes from start to end to the front of the window.
+fn compact(window: &mut [u8], start: usize, end: usize)
+    requires { ⌜ (start ≤ end) × (end ≤ length (now window)) ⌝ }
+    ensures { λ _. ⌜ now (window .exit) ≡ slice start end (now (window .entry)) ++ drop (end - start) (now (window .entry)) ⌝ }
+{
+    if start == 0 {
+        return;
+    }
+    let n = end - start;
+    let mut i = 0;
+    while i < n {
+        window[i] = window[start + i];
+        i += 1;
+    }
+}
+
+// Copies the first n bytes of the chunk into the window, from a place on.
+fn append(window: &mut [u8], at: usize, chunk: &[u8], n: usize)
+    requires { ⌜ (at + n ≤ length (now window)) × (n ≤ length (now chunk)) ⌝ }
+    ensures { λ _. ⌜ now (window .exit) ≡ paste (now (window .entry)) at (now (chunk .entry)) n ⌝ }
+{
+    let mut i = 0;
+    while i < n {
+        window[at + i] = chunk[i];
+        i += 1;
+    }
+}
+
+fn least(a: usize, b: usize) -> usize
+    ensures { λ r. ⌜ r ≡ min a b ⌝ }
+{
+    if a < b {
+        return a;
+    }
+    b
+}
+
+// The waiting bytes move to the window's front, and as many of the chunk's as fit come after them. How many these are.
+fn fill(window: &mut [u8], start: usize, end: usize, chunk: &[u8]) -> usize
+    requires { ⌜ (start ≤ end) × (end ≤ length (now window)) ⌝ }
+    ensures { λ r. ⌜ (r ≡ min (length (now (chunk .entry))) (length (now (window .entry)) - (end - start))) × (now (window .exit) ≡ slice start end (now (window .entry)) ++ (take r (now (chunk .entry)) ++ drop (end - start + r) (now (window .entry)))) ⌝ }
+{
+    let waiting = end - start;
+    let fitting = least(chunk.len(), window.len() - waiting);
+    compact(window, start, end);
+    append(window, waiting, chunk, fitting);
+    fitting
+}
+
+pub enum Fed {
+    Took { count: usize, stream: Stream },
+    Refused(Refusal),
+}
+
+// Takes as many bytes of the chunk as fit after those that wait.
+pub fn feed(stream: Stream, window: &mut [u8], table: &[u32], store: &[u8], chunk: &[u8]) -> Fed
+    ensures { λ r. ⌜ fedOf stream (lend (now (window .exit)) (now (table .entry)) (now (store .entry))) r ≡ feed (streamOf stream) (lend (now (window .entry)) (now (table .entry)) (now (store .entry))) (now (chunk .entry)) ⌝ }
+{
+    match check_open(stream, window, table, store) {
+        Checked::Refused(n) => Fed::Refused(Refusal::new(n)),
+        Checked::Passed => {
+            let start = stream.start;
+            let end = stream.end;
+            let count = fill(window, start, end, chunk);
+            Fed::Took {
+                count,
+                stream: Stream {
+                    start: 0,
+                    end: end - start + count,
+                    names: stream.names,
+                    bytes: stream.bytes,
+                    header: stream.header,
+                    finished: false,
+                },
+            }
+        }
+    }
+}
+
+// ---- finish
+
+pub enum Closed {
+    Stream(Stream),
+    Refused(Refusal),
+}
+
+// No more bytes will come.
+pub fn finish(stream: Stream, window: &[u8], table: &[u32], store: &[u8]) -> Closed
+    ensures { λ r. ⌜ closedOf stream (lend (now (window .entry)) (now (table .entry)) (now (store .entry))) r ≡ finish (streamOf stream) (lend (now (window .entry)) (now (table .entry)) (now (store .entry))) ⌝ }
+{
+    match check_open(stream, window, table, store) {
+        Checked::Refused(n) => Closed::Refused(Refusal::new(n)),
+        Checked::Passed => Closed::Stream(Stream {
+            start: stream.start,
+            end: stream.end,
+            names: stream.names,
+            bytes: stream.bytes,
+            header: stream.header,
+            finished: true,
+        }),
+    }
+}
+
+// ---- next
+
+pub enum Answer {
+    Event { rows: usize, stream: Stream },
+    NeedMore(Stream),
+    End(Stream),
+    Refused(Refusal),
+}
+
+// The state with the header passed; what waits begins at from.
+fn passed(stream: Stream, from: usize) -> Stream
+    ensures { λ r. ⌜ streamOf r ≡ passed (streamOf stream) from ⌝ }
+{
+    Stream {
+        start: from,
+        end: stream.end,
+        names: stream.names,
+        bytes: stream.bytes,
+        header: true,
+        finished: stream.finished,
+    }
+}
+
+// The state after an event of so many bytes at from, which added so many names of so many bytes.
+fn advanced(stream: Stream, from: usize, len: usize, added: usize, bytes: usize) -> Stream
+    requires { ⌜ Sums (streamOf stream) from len added bytes ⌝ }
+    ensures { λ r. ⌜ streamOf r ≡ later (streamOf stream) from len added bytes ⌝ }
+{
+    Stream {
+        start: from + len,
+        end: stream.end,
+        names: stream.names + added,
+        bytes: stream.bytes + bytes,
+        header: true,
+        finished: stream.finished,
+    }
+}
+
+// Whether no more bytes will come and none waits.
+fn at_end(stream: Stream, from: usize) -> bool
+    ensures { λ r. ⌜ r ≡ (stream .finished && eqb from (stream .end)) ⌝ }
+{
+    if stream.finished {
+        return from == stream.end;
+    }
+    false
+}
+
+// The event that stands in the window from a place past the header on.
+fn next_from(
+    stream: Stream,
+    from: usize,
+    window: &[u8],
+    table: &mut [u32],
+    store: &mut [u8],
+    rows: &mut [u32],
+) -> Answer
+    requires { ⌜ Fits (streamOf stream) (lend (now window) (now table) (now store)) ⌝ }
+    requires { ⌜ from ≤ stream .end ⌝ }
+    ensures { λ r. ⌜ answerOf stream (lend (now (window .entry)) (now (table .exit)) (now (store .exit))) (now (rows .exit)) r ≡ nextFrom (streamOf stream) (lend (now (window .entry)) (now (table .entry)) (now (store .entry))) (now (rows .entry)) from ⌝ }
+{
+    if at_end(stream, from) {
+        return Answer::End(passed(stream, from));
+    }
+    let end = stream.end;
+    let finished = stream.finished;
+    let names = stream.names;
+    let bytes = stream.bytes;
+    match scanner::step(
+        &window[from..end],
+        from,
+        finished,
+        true,
+        names,
+        bytes,
+        table,
+        store,
+        rows,
+    ) {
+        Stepped::Event {
+            rows,
+            len,
+            added,
+            bytes: more,
+        } => Answer::Event {
+            rows,
+            stream: advanced(stream, from, len, added, more),
+        },
+        Stepped::Incomplete => {
+            if end - from == window.len() {
+                return Answer::Refused(Refusal::new(Refusal::WINDOW_FULL));
+            }
+            Answer::NeedMore(passed(stream, from))
+        }
+        Stepped::Refused(r) => Answer::Refused(r),
+    }
+}
+
+// The header, and then an event.
+fn next_header(
+    stream: Stream,
+    window: &[u8],
+    table: &mut [u32],
+    store: &mut [u8],
+    rows: &mut [u32],
+) -> Answer
+    requires { ⌜ Fits (streamOf stream) (lend (now window) (now table) (now store)) ⌝ }
+    ensures { λ r. ⌜ answerOf stream (lend (now (window .entry)) (now (table .exit)) (now (store .exit))) (now (rows .exit)) r ≡ nextHeader (streamOf stream) (lend (now (window .entry)) (now (table .entry)) (now (store .entry))) (now (rows .entry)) ⌝ }
+{
+    let start = stream.start;
+    let end = stream.end;
+    if end - start < 4 {
+        if stream.finished {
+            return Answer::Refused(Refusal::new(Refusal::HEADER_SHORT));
+        }
+        return Answer::NeedMore(stream);
+    }
+    match wire::check_magic(&window[start..end]) {
+        Header::Passed => next_from(stream, start + 4, window, table, store, rows),
+        Header::Refused(r) => Answer::Refused(r),
+    }
+}
+
+// The next event, if all of it waits.
+pub fn next(
+    stream: Stream,
+    window: &[u8],
+    table: &mut [u32],
+    store: &mut [u8],
+    rows: &mut [u32],
+) -> Answer
+    ensures { λ r. ⌜ answerOf stream (lend (now (window .entry)) (now (table .exit)) (now (store .exit))) (now (rows .exit)) r ≡ next (streamOf stream) (lend (now (window .entry)) (now (table .entry)) (now (store .entry))) (now (rows .entry)) ⌝ }
+{
+    match check(stream, window, table, store) {
+        Checked::Refused(n) => Answer::Refused(Refusal::new(n)),
+        Checked::Passed => {
+            if stream.header {
+                let start = stream.start;
+                return next_from(stream, start, window, table, store, rows);
+            }
+            next_header(stream, window, table, store, rows)
+        }
+    }
+}

@@ -1,0 +1,239 @@
+// Replays the Rust's stored answers. Standard input has a document a line, in hex, `=` for the empty one. What the slice reader
+// gives of it is printed on a line: its rows in the listing's form, then `end` and the number of events, or `refused` with number
+// and detail, with `|` between them.
+use event::Shape;
+use libc::STDIN_FILENO;
+use libc::STDOUT_FILENO;
+use slice::Created;
+use slice::Next;
+use slice::Place;
+use wire::Command;
+use wire::Refusal;
+ghost use Prim.Native.Nat.{_+_, _≤_, _<_};
+ghost use lib.ListN.{length};
+
+fn put(s: &[u8]) {
+    io::write_all(STDOUT_FILENO, s);
+}
+
+// ---- a row
+
+pub struct Row {
+    pub kind: u32,
+    pub name_source: u32,
+    pub name_start: u32,
+    pub name_len: u32,
+    pub type_: u32,
+    pub source: u32,
+    pub a: u32,
+    pub b: u32,
+}
+
+fn row_at(rows: &[u32], at: usize) -> Row
+    requires { ⌜ at + 8 ≤ length (now rows) ⌝ }
+{
+    Row {
+        kind: rows[at],
+        name_source: rows[at + 1],
+        name_start: rows[at + 2],
+        name_len: rows[at + 3],
+        type_: rows[at + 4],
+        source: rows[at + 5],
+        a: rows[at + 6],
+        b: rows[at + 7],
+    }
+}
+
+fn show_bytes(s: &[u8]) {
+    if s.len() == 0 {
+        put(b"=");
+        return;
+    }
+    let mut i = 0;
+    while i < s.len() {
+        io::print_hex(STDOUT_FILENO, s[i] as u64, 2);
+        i += 1;
+    }
+}
+
+fn show_name(document: &[u8], row: Row) {
+    let kind = row.kind;
+    match kind {
+        Command::START_TAG | Command::END_TAG | Command::ATTRIBUTE => {
+            show_bytes(event::text(document, row.name_source, row.name_start, row.name_len));
+        }
+        _ => {
+            put(b"-");
+        }
+    }
+}
+
+fn show_type(row: Row) {
+    if row.kind == Command::ATTRIBUTE {
+        io::print_decimal(STDOUT_FILENO, row.type_ as u64);
+    } else {
+        put(b"-");
+    }
+}
+
+fn show_value(document: &[u8], row: Row) {
+    let shape = event::shape_of(row.type_);
+    match shape {
+        Shape::String | Shape::Interned | Shape::Blob => {
+            show_bytes(event::text(document, row.source, row.a, row.b));
+        }
+        Shape::Word => {
+            io::print_hex(STDOUT_FILENO, row.b as u64, 8);
+        }
+        Shape::Pair => {
+            io::print_hex(STDOUT_FILENO, row.a as u64, 8);
+            io::print_hex(STDOUT_FILENO, row.b as u64, 8);
+        }
+        Shape::Nothing | Shape::Unknown => {
+            put(b"-");
+        }
+    }
+}
+
+fn show_row(document: &[u8], row: Row) {
+    io::print_decimal(STDOUT_FILENO, row.kind as u64);
+    put(b" ");
+    show_name(document, row);
+    put(b" ");
+    show_type(row);
+    put(b" ");
+    show_value(document, row);
+    put(b"|");
+}
+
+fn show_rows(document: &[u8], rows: &[u32], count: usize) {
+    let mut i = 0;
+    while i < count {
+        if i >= rows.len() / 8 {
+            return;
+        }
+        show_row(document, row_at(rows, i * 8));
+        i += 1;
+    }
+}
+
+// ---- a document
+
+fn show_end(events: usize) {
+    put(b"end ");
+    io::print_decimal(STDOUT_FILENO, events as u64);
+    put(b"\n");
+}
+
+fn show_refused(refusal: Refusal) {
+    put(b"refused ");
+    io::print_decimal(STDOUT_FILENO, refusal.number as u64);
+    put(b" ");
+    io::print_decimal(STDOUT_FILENO, refusal.detail as u64);
+    put(b"\n");
+}
+
+// An event takes a byte at least, so the turns are enough.
+fn show_events(document: &[u8], first: Place, pool: &mut [u32], rows: &mut [u32]) {
+    let mut place = first;
+    let mut events = 0;
+    while events <= document.len() {
+        let next = slice::next_event(place, document, pool, rows);
+        match next {
+            Next::Event {
+                rows: count,
+                place: after,
+            } => {
+                show_rows(document, rows, count);
+                place = after;
+            }
+            Next::End => {
+                show_end(events);
+                return;
+            }
+            Next::Refused(refusal) => {
+                show_refused(refusal);
+                return;
+            }
+        }
+        events += 1;
+    }
+}
+
+fn show_document(document: &[u8]) {
+    let mut pool = [0u32; 256];
+    let mut rows = [0u32; 512];
+    let created = slice::create(document, &pool);
+    match created {
+        Created::Place(place) => {
+            show_events(document, place, &mut pool, &mut rows);
+        }
+        Created::Refused(refusal) => {
+            show_refused(refusal);
+        }
+    }
+}
+
+// ---- lines
+
+pub struct Line {
+    pub len: usize,
+    pub next: usize,
+}
+
+// The value of a hex digit, and 0 for any other byte.
+fn digit(c: u8) -> u8
+    ensures { λ r. ⌜ r < 16 ⌝ }
+{
+    match c {
+        b'0'..=b'9' => c - b'0',
+        b'a'..=b'f' => c - b'a' + 10,
+        _ => 0,
+    }
+}
+
+// The bytes of the line that starts at a place, as many as there is room for, and where the next line starts.
+fn line_at(s: &[u8], from: usize, document: &mut [u8]) -> Line
+    requires { ⌜ from < length (now s) ⌝ }
+    ensures { λ r. ⌜ (from < r .next) × (r .next ≤ length (now (s .entry))) × (r .len ≤ length (now (document .entry))) ⌝ }
+{
+    let mut at = from;
+    let mut len = 0;
+    while at < s.len() {
+        if s[at] == b'\n' {
+            return Line { len, next: at + 1 };
+        }
+        if s[at] == b'=' {
+            at += 1;
+            continue;
+        }
+        if len == document.len() {
+            at += 1;
+            continue;
+        }
+        if at + 1 == s.len() {
+            break;
+        }
+        document[len] = digit(s[at]) * 16 + digit(s[at + 1]);
+        len += 1;
+        at += 2;
+    }
+    Line { len, next: s.len() }
+}
+
+fn show_documents(s: &[u8], document: &mut [u8]) {
+    let mut at = 0;
+    while at < s.len() {
+        let line = line_at(s, at, document);
+        let len = line.len;
+        show_document(&document[..len]);
+        at = line.next;
+    }
+}
+
+fn main() {
+    let mut buffer = io::large_buffer();
+    let n = io::read_full(STDIN_FILENO, &mut buffer);
+    let mut document = io::buffer();
+    show_documents(&buffer[..n], &mut document);
+}

@@ -1,0 +1,350 @@
+//! A list of events, written by our writer and by the Rust's `events_to_abx`.
+
+use android_abx::{events_to_abx, Event};
+use harness::common::map_error;
+
+use crate::documents::HEADER;
+use crate::lent::{unwritten_word, Lent};
+use crate::ours::{self, refused, Answer, List};
+use crate::report::{Difference, Seen};
+use crate::rows::{self, Value};
+use crate::slice::{same, Walk, POOL_LIMIT};
+
+/// A list as our writer takes it: words that form rows, and the two stores of their spans.
+#[derive(Default)]
+struct Stored {
+    stores: [Vec<u8>; 2],
+    words: Vec<u32>,
+    /// How many words there are at each event's end.
+    ends: Vec<usize>,
+}
+
+impl Stored {
+    fn new(events: &[Event]) -> Stored {
+        let mut stored = Stored::default();
+        for event in events {
+            rows::each(event, |row| {
+                let name = match row.name {
+                    None => [0, 0, 0],
+                    Some(name) => stored.span(name.as_bytes()),
+                };
+                let value = match row.value {
+                    Value::None => [0, 0, 0],
+                    Value::Bytes(bytes) => stored.span(bytes),
+                    Value::Word(word) => [0, 0, word],
+                    Value::Pair(pair) => [0, (pair >> 32) as u32, pair as u32],
+                };
+                stored.words.push(row.kind);
+                stored.words.extend(name);
+                stored.words.push(row.of);
+                stored.words.extend(value);
+            });
+            stored.ends.push(stored.words.len());
+        }
+        stored
+    }
+
+    /// Puts the bytes into one of the stores, anew each time.
+    fn span(&mut self, bytes: &[u8]) -> [u32; 3] {
+        let source = (self.stores[0].len() + self.words.len()) / 8 % 2;
+        let store = &mut self.stores[source];
+        store.push(b'.');
+        let start = store.len();
+        store.extend_from_slice(bytes);
+        [source as u32, start as u32, bytes.len() as u32]
+    }
+
+    /// The rows of some events of the list.
+    fn part(&self, from: usize, to: usize) -> List<'_> {
+        let place = |event: usize| if event == 0 { 0 } else { self.ends[event - 1] };
+        self.rows(&self.words[place(from)..place(to)])
+    }
+
+    fn rows<'a>(&'a self, rows: &'a [u32]) -> List<'a> {
+        List {
+            first: &self.stores[0],
+            second: &self.stores[1],
+            rows,
+        }
+    }
+}
+
+/// What the writer has done: bytes written, names in the pool.
+#[derive(Clone, Copy)]
+struct State {
+    written: usize,
+    names: usize,
+}
+
+/// Which calls a list is tried with: one for the whole list; also in halves and without enough space; also event by event
+/// and with wrong rows.
+#[derive(Clone, Copy, PartialEq, PartialOrd)]
+pub enum Calls {
+    Whole,
+    Lists,
+    Each,
+}
+
+pub struct Writer {
+    output: Lent<u8>,
+    pool: Lent<u32>,
+    /// For the walk over what the Rust wrote.
+    walked: [Lent<u32>; 2],
+    used: State,
+    pub seen: Seen,
+}
+
+fn unwritten_byte(i: usize) -> u8 {
+    0xA5 ^ i as u8
+}
+
+impl Writer {
+    pub fn new(len: usize) -> Writer {
+        let names = (len / 4 + 4).min(POOL_LIMIT);
+        Writer {
+            output: Lent::new((2 * len + 16).min(16_777_216), unwritten_byte),
+            pool: Lent::new(2 * names, unwritten_word),
+            walked: [2 * names, 64].map(|len| Lent::new(len, unwritten_word)),
+            used: State {
+                written: 0,
+                names: 0,
+            },
+            seen: Seen::default(),
+        }
+    }
+
+    /// Tables that hold what they should again, after a difference.
+    pub fn renew(&mut self) {
+        self.output = Lent::new(self.output.len(), unwritten_byte);
+        self.pool = Lent::new(self.pool.len(), unwritten_word);
+    }
+
+    /// Compares all that the two make of a list of events.
+    pub fn list(&mut self, events: &[Event], calls: Calls) -> Result<(), Difference> {
+        self.seen.documents += 1;
+        self.seen.events += events.len() as u64;
+        let stored = Stored::new(events);
+        let all = stored.part(0, events.len());
+        let bytes = match events_to_abx(events) {
+            Ok(bytes) => bytes,
+            Err(error) => {
+                let (number, detail) = map_error(&error);
+                let state = self.create()?;
+                return self.refuses(state, all, refused(number, detail));
+            }
+        };
+        self.output.grow((bytes.len() + 9).min(16_777_216));
+        let states = self.states(events, &bytes);
+        let end = *states.last().unwrap();
+        let state = self.create()?;
+        self.takes(false, state, end, all, &bytes)?;
+        if calls >= Calls::Lists {
+            let state = self.create()?;
+            if end.names > 0 {
+                let room = [bytes.len() - 1, 2 * end.names - 2];
+                self.call(false, state, all, room, refused(11, 0))?;
+            }
+            if bytes.len() > 4 {
+                let room = [bytes.len() - 1, self.pool.len()];
+                self.call(false, state, all, room, refused(15, 0))?;
+            }
+            let half = events.len() / 2;
+            self.takes(false, state, states[half], stored.part(0, half), &bytes)?;
+            let rest = stored.part(half, events.len());
+            self.takes(false, states[half], end, rest, &bytes)?;
+        }
+        if calls >= Calls::Each {
+            self.create()?;
+            for i in 0..events.len() {
+                let (from, to) = (states[i], states[i + 1]);
+                self.takes(true, from, to, stored.part(i, i + 1), &bytes)?;
+            }
+            self.wrong_rows(&stored)?;
+        }
+        self.whole_tables()
+    }
+
+    /// What the Rust does not know: words that form no rows, strings that break RFC 3629, pairs that end outside.
+    fn wrong_rows(&mut self, stored: &Stored) -> Result<(), Difference> {
+        let state = self.create()?;
+        let words = &stored.words;
+        let not_rows = refused(16, 0);
+        self.call_all(true, state, stored.rows(&[]), not_rows)?;
+        if words.is_empty() {
+            return Ok(());
+        }
+        if stored.ends.len() > 1 {
+            self.call_all(true, state, stored.part(0, 2), not_rows)?;
+        }
+        for change in 0..8 {
+            let mut words = words.clone();
+            let last = words.len() - 8;
+            match change {
+                0 => words.push(0),
+                1 => words[0] = 15,
+                2 => words[last] = 11,
+                3 => words[last + 4] = 3,
+                4 => words[last + 1] = 2,
+                5 => words[last + 5] = 2,
+                6 => words[last + 2] = u32::MAX,
+                _ => _ = words.pop(),
+            }
+            self.call_all(false, state, stored.rows(&words), not_rows)?;
+        }
+        if (0..words.len() / 8).any(|row| [2, 3, 15].contains(&words[8 * row])) {
+            self.pool.put(0, &[self.output.len() as u32, 1]);
+            let state = State { names: 1, ..state };
+            self.call_all(false, state, stored.rows(words), refused(19, 0))?;
+            self.pool.clear(2);
+        }
+        // the first string with a byte in it
+        for row in words.chunks_exact(8) {
+            let spans = [(true, &row[1..4]), (row[4] == 2, &row[5..8])];
+            for (is_string, span) in spans {
+                if is_string && span[2] > 0 {
+                    let mut stores = stored.stores.clone();
+                    stores[span[0] as usize][span[1] as usize] = 0xFF;
+                    let list = List {
+                        first: &stores[0],
+                        second: &stores[1],
+                        rows: words,
+                    };
+                    return self.call_all(false, state, list, refused(7, 0));
+                }
+            }
+        }
+        Ok(())
+    }
+
+    /// The state after each event of what the Rust wrote. The pairs of new names are noted on the way.
+    fn states(&mut self, events: &[Event], bytes: &[u8]) -> Vec<State> {
+        let [pool, rows] = &mut self.walked;
+        let mut walk = Walk {
+            document: bytes,
+            at: 4,
+            names: 0,
+            pool,
+            rows,
+            written: 0,
+        };
+        let mut states = vec![State {
+            written: 4,
+            names: 0,
+        }];
+        for event in events {
+            walk.rows.grow(8 * rows::count(event));
+            walk.written = 0;
+            walk.event();
+            states.push(State {
+                written: walk.at,
+                names: walk.names,
+            });
+        }
+        states
+    }
+
+    /// A writer anew, the output and the pool as unwritten.
+    fn create(&mut self) -> Result<State, Difference> {
+        self.output.clear(self.used.written);
+        self.pool.clear(2 * self.used.names);
+        let short = ours::writer_create(&mut self.output.now[..3], &self.pool.now);
+        same("create", short, refused(15, 0))?;
+        self.seen.refusals[15] += 1;
+        self.output.expect(0, &HEADER);
+        let created = ours::writer_create(&mut self.output.now, &self.pool.now);
+        same("create", created, [0, 4, 0, 0])?;
+        self.used = State {
+            written: 4,
+            names: 0,
+        };
+        Ok(self.used)
+    }
+
+    fn refuses(&mut self, state: State, list: List, answer: Answer) -> Result<(), Difference> {
+        self.call_all(false, state, list, answer)?;
+        self.whole_tables()
+    }
+
+    /// A call that should come from one state to another, of which `bytes` has all that is written. On every other call
+    /// there is nothing to spare.
+    fn takes(
+        &mut self,
+        single: bool,
+        from: State,
+        to: State,
+        list: List,
+        bytes: &[u8],
+    ) -> Result<(), Difference> {
+        self.output
+            .expect(from.written, &bytes[from.written..to.written]);
+        for i in 2 * from.names..2 * to.names {
+            let word = self.walked[0].expected(i);
+            self.pool.expect(i, &[word]);
+        }
+        self.used = to;
+        let room = match self.seen.calls % 2 {
+            0 => [self.output.len(), self.pool.len()],
+            _ => [to.written, 2 * to.names],
+        };
+        self.call(single, from, list, room, [0, to.written, to.names, 0])
+    }
+
+    fn call_all(
+        &mut self,
+        single: bool,
+        state: State,
+        list: List,
+        expected: Answer,
+    ) -> Result<(), Difference> {
+        let room = [self.output.len(), self.pool.len()];
+        self.call(single, state, list, room, expected)
+    }
+
+    fn call(
+        &mut self,
+        single: bool,
+        state: State,
+        list: List,
+        room: [usize; 2],
+        expected: Answer,
+    ) -> Result<(), Difference> {
+        self.seen.calls += 1;
+        if expected[0] == 2 {
+            self.seen.refusals[expected[1]] += 1;
+        }
+        let output = &mut self.output.now[..room[0]];
+        let pool = &mut self.pool.now[..room[1]];
+        let write = if single {
+            ours::write_event
+        } else {
+            ours::write_events
+        };
+        let answer = write(state.written, state.names, list, output, pool);
+        let call = if single {
+            "write_event"
+        } else {
+            "write_events"
+        };
+        same(call, answer, expected)?;
+        let (written, names) = match expected {
+            [0, written, names, _] => (written, names),
+            _ => (state.written, state.names),
+        };
+        if !self.output.holds(state.written, written) {
+            return Err(format!(
+                "the output after a {call} that answered {answer:?}"
+            ));
+        }
+        if !self.pool.holds(2 * state.names, 2 * names) {
+            return Err(format!("the pool after a {call} that answered {answer:?}"));
+        }
+        Ok(())
+    }
+
+    fn whole_tables(&self) -> Result<(), Difference> {
+        if self.output.holds_all() && self.pool.holds_all() {
+            return Ok(());
+        }
+        Err("a byte or word far from those that a call may write has changed".into())
+    }
+}
