@@ -7,6 +7,7 @@ use android_abx::{AbxParser, Event};
 
 #[allow(dead_code)]
 #[path = "../differential/ours.rs"]
+#[allow(dead_code)] // a benchmark uses some of them
 mod ours;
 
 /// What a document holds.

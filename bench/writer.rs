@@ -8,6 +8,7 @@ use android_abx::{events_to_abx, AbxParser, Event};
 
 #[allow(dead_code)]
 #[path = "../differential/ours.rs"]
+#[allow(dead_code)] // a benchmark uses some of them
 mod ours;
 
 /// The rows of a whole document.

@@ -517,7 +517,6 @@ pub fn long_tag(random: &mut Random, size: usize) -> Vec<u8> {
 }
 
 /// Lists with a string or a blob of these bytes in each place where one can stand.
-#[cfg(writer)]
 pub fn lists_with(text: &str) -> Vec<Vec<android_abx::Event>> {
     use android_abx::{Attribute, AttributeValue, Event};
     let tag = |name: &str, attribute: &str, value| Event::StartTag {

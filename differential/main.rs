@@ -8,7 +8,6 @@ mod report;
 mod rows;
 mod slice;
 mod vectors;
-#[cfg(writer)]
 mod writer;
 
 use std::process::ExitCode;
@@ -211,7 +210,6 @@ fn slice_reader(report: &mut Report, long: bool, random: &mut Random) {
 
 // ---- the writer
 
-#[cfg(writer)]
 mod writing {
     use super::*;
     use android_abx::{AbxParser, Event};
@@ -326,7 +324,6 @@ fn main() -> ExitCode {
     let mut report = Report::default();
     let mut refusals: Vec<usize> = (1..=11).chain([17, 19]).collect();
     slice_reader(&mut report, long, random);
-    #[cfg(writer)]
     {
         writing::writer(&mut report, long, random);
         refusals.extend([14, 15, 16]);

@@ -1,5 +1,4 @@
-//! The static library's functions, over slices. An answer starts out as words that no call gives. The writer's are there
-//! under `--cfg writer`.
+//! The static library's functions, over slices. An answer starts out as words that no call gives.
 
 #[link(name = "abx", kind = "static")]
 extern "C" {
@@ -79,7 +78,6 @@ pub fn slice_next(
 }
 
 /// Rows, and the two stores of their spans.
-#[cfg(writer)]
 #[derive(Clone, Copy)]
 pub struct List<'a> {
     pub first: &'a [u8],
@@ -87,7 +85,6 @@ pub struct List<'a> {
     pub rows: &'a [u32],
 }
 
-#[cfg(writer)]
 #[link(name = "abx", kind = "static")]
 extern "C" {
     fn abx_writer_create(
@@ -133,7 +130,6 @@ extern "C" {
 }
 
 /// `[0, written, names, 0]` or a refusal.
-#[cfg(writer)]
 pub fn writer_create(output: &mut [u8], pool: &[u32]) -> Answer {
     let mut answer = NONE;
     unsafe {
@@ -149,7 +145,6 @@ pub fn writer_create(output: &mut [u8], pool: &[u32]) -> Answer {
     answer
 }
 
-#[cfg(writer)]
 macro_rules! write {
     ($name:ident, $function:ident) => {
         /// `[0, written, names, 0]` or a refusal.
@@ -184,7 +179,5 @@ macro_rules! write {
     };
 }
 
-#[cfg(writer)]
 write!(write_event, abx_write_event);
-#[cfg(writer)]
 write!(write_events, abx_write_events);

@@ -7,6 +7,7 @@ use lib.Dec.{leb}
 use lib.ListN.{length}
 use lib.Seq.{sets}
 use Rattle.slice_spec.specs.Slice as Slice
+use Rattle.writer_spec.specs.Writer as Writer
 
 -- an answer, where there is room for four words
 unfoldable pub answered : List ℕ → List ℕ → List ℕ
@@ -29,3 +30,15 @@ pub record NextLeft (answer answer′ pool rows : List ℕ) (x : Slice.Left) : T
   pub answer-is : answer′ ≡ answered answer (nextWords x)
   pub pool-is : pool ≡ x .table
   pub rows-is : rows ≡ x .rows
+
+-- ---- the writer
+
+abbrev pub replyWords : Writer.Reply → List ℕ
+replyWords (Writer.wrote w) = 0 ∷ w .written ∷ w .names ∷ 0 ∷ []
+replyWords (Writer.refused n d) = 2 ∷ n ∷ d ∷ 0 ∷ []
+
+-- what a writer's call leaves: the answer's words, the output and the pool table
+pub record WriteLeft (answer answer′ output pool : List ℕ) (x : Writer.Left) : Type 0 where
+  pub answer-is : answer′ ≡ answered answer (replyWords (x .reply))
+  pub output-is : output ≡ x .lent .output
+  pub pool-is : pool ≡ x .lent .table

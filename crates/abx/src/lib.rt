@@ -4,11 +4,15 @@
 use slice::Created;
 use slice::Next;
 use slice::Place;
+use writer::Writer;
+use writer::Written;
 ghost use mathlib.Core.List.{[], _∷_};
 ghost use mathlib.Core.Path.{_≡_};
 ghost use Rattle.utf8.specs.Utf8.{wellFormed};
 ghost use Rattle.slice_spec.specs.Slice as Slice;
-ghost use Rattle.abx.specs.Words.{answered, createdWords, NextLeft};
+ghost use Rattle.writer_spec.specs.Writer as Spec;
+ghost use Rattle.writer.specs.Answers.{replyOf};
+ghost use Rattle.abx.specs.Words.{answered, createdWords, NextLeft, replyWords, WriteLeft};
 
 const DONE: usize = 0;
 
@@ -63,4 +67,61 @@ pub extern "C" fn abx_slice_next(
         Next::End => put(answer, END, 0, 0, 0),
         Next::Refused(r) => put(answer, REFUSED, r.number as usize, r.detail as usize, 0),
     }
+}
+
+// 0, bytes written and names; or 2, number and detail.
+fn tell(answer: &mut [usize], written: Written)
+    ensures { λ _. ⌜ now (answer .exit) ≡ answered (now (answer .entry)) (replyWords (replyOf written)) ⌝ }
+{
+    match written {
+        Written::Wrote(w) => put(answer, DONE, w.written, w.names, 0),
+        Written::Refused(r) => put(answer, REFUSED, r.number as usize, r.detail as usize, 0),
+    }
+}
+
+#[no_mangle]
+pub extern "C" fn abx_writer_create(output: &mut [u8], pool: &[u32], answer: &mut [usize])
+    ensures { λ _. ⌜ WriteLeft (now (answer .entry)) (now (answer .exit)) (now (output .exit)) (now (pool .entry)) (Spec.create (record { output = now (output .entry); table = now (pool .entry) })) ⌝ }
+{
+    tell(answer, writer::create(output, pool))
+}
+
+#[no_mangle]
+pub extern "C" fn abx_write_event<'a>(
+    written: usize,
+    names: usize,
+    first: &'a [u8],
+    second: &'a [u8],
+    rows: &[u32],
+    output: &mut [u8],
+    pool: &mut [u32],
+    answer: &mut [usize],
+)
+    ensures { λ _. ⌜ WriteLeft (now (answer .entry)) (now (answer .exit)) (now (output .exit)) (now (pool .exit)) (Spec.writeEvent (record { written = written; names = names }) (now (first .entry)) (now (second .entry)) (now (rows .entry)) (record { output = now (output .entry); table = now (pool .entry) })) ⌝ }
+{
+    let w = Writer { written, names };
+    tell(
+        answer,
+        writer::write_event(w, first, second, rows, output, pool),
+    )
+}
+
+#[no_mangle]
+pub extern "C" fn abx_write_events<'a>(
+    written: usize,
+    names: usize,
+    first: &'a [u8],
+    second: &'a [u8],
+    rows: &[u32],
+    output: &mut [u8],
+    pool: &mut [u32],
+    answer: &mut [usize],
+)
+    ensures { λ _. ⌜ WriteLeft (now (answer .entry)) (now (answer .exit)) (now (output .exit)) (now (pool .exit)) (Spec.writeEvents (record { written = written; names = names }) (now (first .entry)) (now (second .entry)) (now (rows .entry)) (record { output = now (output .entry); table = now (pool .entry) })) ⌝ }
+{
+    let w = Writer { written, names };
+    tell(
+        answer,
+        writer::write_events(w, first, second, rows, output, pool),
+    )
 }

@@ -4,98 +4,73 @@ use mathlib.Core.Path.{sym, ap, _∙_}
 use borrow.Author.Needs.{needs}
 use Rattle.abx.proofs.abx_slice_next.Statement.{statement}
 use Rattle.abx.proofs.abx_slice_next.Tie as tie
-use Rattle.abx.proofs.abx_slice_next.Reads as reads
-use Rattle.abx.proofs.abx_slice_next.Lts as lts
-use Rattle.abx.proofs.put.Reads as put-reads
-use Rattle.slice.proofs.next_event.Reads as next-event-reads
 
--- src/lib.rt:61:11
 next-event-requires : tie.Need-next-event-requires
 next-event-requires c κs = search needs
 
--- src/lib.rt:62:29
 enum-known-count : tie.Need-enum-known-count
 enum-known-count c = search needs
 
--- src/lib.rt:62:47
 put-requires : tie.Need-put-requires
 put-requires c κs = search needs
 
--- src/lib.rt:63:26
 enum-told : tie.Need-enum-told
 enum-told c = search needs
 
--- src/lib.rt:63:22
 put-requires-2 : tie.Need-put-requires-2
 put-requires-2 c κs = search needs
 
--- src/lib.rt:64:23
 enum-known-r : tie.Need-enum-known-r
 enum-known-r c = search needs
 
--- src/lib.rt:64:50
 cast-put : tie.Need-cast-put
 cast-put c = search needs
 
--- src/lib.rt:64:69
 cast-put-2 : tie.Need-cast-put-2
 cast-put-2 c = search needs
 
--- src/lib.rt:64:29
 put-requires-3 : tie.Need-put-requires-3
 put-requires-3 c κs = search needs
 
--- src/lib.rt:50:1
 same-length : tie.Need-same-length
 same-length c = search needs
 
--- src/lib.rt:50:1
 same-length-2 : tie.Need-same-length-2
 same-length-2 c = search needs
 
--- src/lib.rt:50:1
 same-length-3 : tie.Need-same-length-3
 same-length-3 c = search needs
 
--- src/lib.rt:50:1
 returns : tie.Need-returns
 returns c =
     let a = c .before .before .before .before .before .before .before .before .before .before .before .before .before .before .before .before .before .before .args in
     let e = ap (nextOf (record { at = a .at; names = a .names }) _ _) (sym (c .before .before .before .before .before .count .given .1)) ∙ c .before .before .before .before .before .before .before .before .before .before .before .next-event .ensures in
     next-left (a .answer .now) _ _ _ (c .before .before .put .ensures) e
 
--- src/lib.rt:50:1
 same-length-4 : tie.Need-same-length-4
 same-length-4 c = search needs
 
--- src/lib.rt:50:1
 same-length-5 : tie.Need-same-length-5
 same-length-5 c = search needs
 
--- src/lib.rt:50:1
 same-length-6 : tie.Need-same-length-6
 same-length-6 c = search needs
 
--- src/lib.rt:50:1
 returns-2 : tie.Need-returns-2
 returns-2 c =
     let a = c .before .before .before .before .before .before .before .before .before .before .before .before .before .before .before .before .before .args in
     let e = ap (nextOf (record { at = a .at; names = a .names }) _ _) (sym (c .before .before .before .before .enum-told .given .1)) ∙ c .before .before .before .before .before .before .before .before .before .before .next-event .ensures in
     next-left (a .answer .now) _ _ _ (c .before .before .put2 .ensures) e
 
--- src/lib.rt:50:1
 same-length-7 : tie.Need-same-length-7
 same-length-7 c = search needs
 
--- src/lib.rt:50:1
 same-length-8 : tie.Need-same-length-8
 same-length-8 c = search needs
 
--- src/lib.rt:50:1
 same-length-9 : tie.Need-same-length-9
 same-length-9 c = search needs
 
--- src/lib.rt:50:1
 returns-3 : tie.Need-returns-3
 returns-3 c =
     let a = c .before .before .before .before .before .before .before .before .before .before .before .before .before .before .before .before .before .before .before .before .args in

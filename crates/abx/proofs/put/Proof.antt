@@ -5,35 +5,26 @@ use lib.ListN.{length-set}
 use borrow.Author.Needs.{needs}
 use Rattle.abx.proofs.put.Statement.{statement}
 use Rattle.abx.proofs.put.Tie as tie
-use Rattle.abx.proofs.put.Reads as reads
-use Rattle.abx.proofs.put.Lts as lts
 
--- src/lib.rt:31:9
 slice-write-answer : tie.Need-slice-write-answer
 slice-write-answer c = omega arith
 
--- src/lib.rt:32:9
 slice-write-answer-2 : tie.Need-slice-write-answer-2
 slice-write-answer-2 c = simp length-set (omega arith)
 
--- src/lib.rt:33:9
 slice-write-answer-3 : tie.Need-slice-write-answer-3
 slice-write-answer-3 c = simp length-set (omega arith)
 
--- src/lib.rt:34:9
 slice-write-answer-4 : tie.Need-slice-write-answer-4
 slice-write-answer-4 c = simp length-set (omega arith)
 
--- src/lib.rt:27:1
 same-length : tie.Need-same-length
 same-length c = search needs
 
--- src/lib.rt:27:1
 returns : tie.Need-returns
 unfolding answered
 returns c = rw (le-leb _ _ (c .if1 .taken))
 
--- src/lib.rt:27:1
 returns-2 : tie.Need-returns-2
 unfolding answered
 returns-2 c = rw (lt-leb _ _ (c .if1 .left))

@@ -4,43 +4,30 @@ use mathlib.Core.Path.{sym, ap, _∙_}
 use borrow.Author.Needs.{needs}
 use Rattle.slice.proofs.create.Statement.{statement}
 use Rattle.slice.proofs.create.Tie as tie
-use Rattle.slice.proofs.create.Reads as reads
-use Rattle.slice.proofs.create.Lts as lts
-use Rattle.slice.proofs.sizes_bad.Reads as sizes-bad-reads
-use Rattle.wire.proofs.Refusal.new.Reads as new-reads
-use Rattle.wire.proofs.check_magic.Reads as check-magic-reads
 
--- src/lib.rt:60:8
 sizes-bad-requires : tie.Need-sizes-bad-requires
 sizes-bad-requires c κs = search needs
 
--- src/lib.rt:61:33
 new-requires : tie.Need-new-requires
 new-requires c κs = search needs
 
--- src/lib.rt:61:9
 returns : tie.Need-returns
 unfolding create
 returns c = rw (sym (c .before .before .sizes-bad .ensures) ∙ c .before .if1 .taken, c .new .ensures .0, c .new .ensures .1)
 
--- src/lib.rt:63:11
 check-magic-requires : tie.Need-check-magic-requires
 check-magic-requires c κs = search needs
 
--- src/lib.rt:64:42
 enum-told : tie.Need-enum-told
 enum-told c = search needs
 
--- src/lib.rt:65:25
 enum-known-r : tie.Need-enum-known-r
 enum-known-r c = search needs
 
--- src/lib.rt:57:1
 returns-2 : tie.Need-returns-2
 unfolding create
 returns-2 c = rw (sym (c .before .before .before .before .sizes-bad .ensures) ∙ c .before .before .before .if1 .left, sym (c .before .before .check-magic .ensures) ∙ ap headerOf (c .enum-told .given .1))
 
--- src/lib.rt:57:1
 returns-3 : tie.Need-returns-3
 unfolding create
 returns-3 c = rw (sym (c .before .before .before .before .before .sizes-bad .ensures) ∙ c .before .before .before .before .if1 .left, sym (c .before .before .before .check-magic .ensures) ∙ ap headerOf (c .before .r .given .1))

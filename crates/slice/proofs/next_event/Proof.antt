@@ -4,67 +4,49 @@ use Rattle.slice.proofs.Onward.{next-sizes, next-place, next-goes, fits
 use borrow.Author.Needs.{needs}
 use Rattle.slice.proofs.next_event.Statement.{statement}
 use Rattle.slice.proofs.next_event.Tie as tie
-use Rattle.slice.proofs.next_event.Reads as reads
-use Rattle.slice.proofs.next_event.Lts as lts
-use Rattle.slice.proofs.next_from.Reads as next-from-reads
-use Rattle.slice.proofs.place_bad.Reads as place-bad-reads
-use Rattle.slice.proofs.sizes_bad.Reads as sizes-bad-reads
-use Rattle.wire.proofs.Refusal.new.Reads as new-reads
 
--- src/lib.rt:102:8
 sizes-bad-requires : tie.Need-sizes-bad-requires
 sizes-bad-requires c κs = search needs
 
--- src/lib.rt:103:30
 new-requires : tie.Need-new-requires
 new-requires c κs = search needs
 
--- src/lib.rt:103:9
 same-length : tie.Need-same-length
 same-length c = search needs
 
--- src/lib.rt:103:9
 returns : tie.Need-returns
 returns c =
     let a = c .before .before .before .before .before .before .before .args in
     let p = placeOf (a .place) in
     next-sizes p (a .document .now) (a .pool .now) (a .rows .now) _ _ (sym (c .before .before .sizes-bad .ensures) ∙ c .before .if1 .taken) (c .new .ensures .0) (c .new .ensures .1)
 
--- src/lib.rt:105:8
 place-bad-requires : tie.Need-place-bad-requires
 place-bad-requires c κs = search needs
 
--- src/lib.rt:106:30
 new-requires-2 : tie.Need-new-requires-2
 new-requires-2 c κs = search needs
 
--- src/lib.rt:106:9
 same-length-2 : tie.Need-same-length-2
 same-length-2 c = search needs
 
--- src/lib.rt:106:9
 returns-2 : tie.Need-returns-2
 returns-2 c =
     let a = c .before .before .before .before .before .before .before .before .before .before .args in
     let p = placeOf (a .place) in
     next-place p (a .document .now) (a .pool .now) (a .rows .now) _ _ (sym (c .before .before .before .before .before .sizes-bad .ensures) ∙ c .before .before .before .before .if1 .left) (sym (c .before .before .place-bad .ensures) ∙ c .before .if2 .taken) (c .new2 .ensures .0) (c .new2 .ensures .1)
 
--- src/lib.rt:108:5
 next-from-requires : tie.Need-next-from-requires
 next-from-requires c κs =
     let a = c .before .before .before .before .before .before .before .before .before .before .before .args in
     let p = placeOf (a .place) in
     fits p (a .document .now) (a .pool .now) (a .rows .now) (sym (c .before .before .before .before .before .before .sizes-bad .ensures) ∙ c .before .before .before .before .before .if1 .left) (sym (c .before .before .before .place-bad .ensures) ∙ c .before .before .if2 .left)
 
--- src/lib.rt:99:1
 same-length-3 : tie.Need-same-length-3
 same-length-3 c = search needs
 
--- src/lib.rt:99:1
 same-length-4 : tie.Need-same-length-4
 same-length-4 c = search needs
 
--- src/lib.rt:99:1
 returns-3 : tie.Need-returns-3
 returns-3 c =
     let a = c .before .before .before .before .before .before .before .before .before .before .before .before .before .before .before .before .args in

@@ -6,42 +6,31 @@ use Rattle.slice.proofs.Onward.{at-end, sums, goes}
 use borrow.Author.Needs.{needs}
 use Rattle.slice.proofs.next_from.Statement.{statement}
 use Rattle.slice.proofs.next_from.Tie as tie
-use Rattle.slice.proofs.next_from.Reads as reads
-use Rattle.slice.proofs.next_from.Lts as lts
-use Rattle.scanner.proofs.step.Reads as step-reads
 
--- src/lib.rt:77:9
 returns : tie.Need-returns
 returns c =
     let a = c .before .before .before .before .args in
     let p = placeOf (a .place) in
     at-end p (a .document .now) (a .pool .now) (a .rows .now) (c .if1 .taken)
 
--- src/lib.rt:80:25
 sub-step : tie.Need-sub-step
 sub-step c = search needs
 
--- src/lib.rt:80:25
 part-step-start : tie.Need-part-step-start
 part-step-start c = search needs
 
--- src/lib.rt:80:25
 part-step-end : tie.Need-part-step-end
 part-step-end c = search needs
 
--- src/lib.rt:80:75
 slice-aggregate-step : tie.Need-slice-aggregate-step
 slice-aggregate-step c = search needs
 
--- src/lib.rt:80:11
 step-requires : tie.Need-step-requires
 step-requires c κs = search needs
 
--- src/lib.rt:82:19
 enum-known-count : tie.Need-enum-known-count
 enum-known-count c = search needs
 
--- src/lib.rt:89:21
 add-t25 : tie.Need-add-t25
 add-t25 c =
     let a = c .before .before .before .before .before .before .before .before .before .before .before .before .before .before .before .before .before .args in
@@ -50,7 +39,6 @@ add-t25 c =
     let h = sums p (a .document .now) (a .pool .now) (a .rows .now) _ (c .before .before .before .before .before .before .before .before .before .before .before .before .before .before .before .before .before .pre) _ _ _ _ _ _ _ e in
     omega (arith, h .0, c .before .before .before .before .before .before .before .before .before .before .before .before .before .before .before .before .before .pre .document-small)
 
--- src/lib.rt:90:24
 add-t26 : tie.Need-add-t26
 add-t26 c =
     let a = c .before .before .before .before .before .before .before .before .before .before .before .before .before .before .before .before .before .args in
@@ -59,23 +47,18 @@ add-t26 c =
     let h = sums p (a .document .now) (a .pool .now) (a .rows .now) _ (c .before .before .before .before .before .before .before .before .before .before .before .before .before .before .before .before .before .pre) _ _ _ _ _ _ _ e in
     omega (arith, h .1, c .before .before .before .before .before .before .before .before .before .before .before .before .before .before .before .before .before .pre .table-small)
 
--- src/lib.rt:93:32
 enum-told : tie.Need-enum-told
 enum-told c = search needs
 
--- src/lib.rt:94:26
 enum-known-r : tie.Need-enum-known-r
 enum-known-r c = search needs
 
--- src/lib.rt:70:1
 same-length : tie.Need-same-length
 same-length c = search needs
 
--- src/lib.rt:70:1
 same-length-2 : tie.Need-same-length-2
 same-length-2 c = search needs
 
--- src/lib.rt:70:1
 returns-2 : tie.Need-returns-2
 returns-2 c =
     let a = c .before .before .before .before .before .before .before .before .before .before .before .before .before .before .before .before .before .args in
@@ -83,15 +66,12 @@ returns-2 c =
     let e = sym (c .before .before .before .before .before .before .before .before .step .ensures) ∙ ap (stepOf _ _ _) (c .before .count .given .1) in
     goes p (a .document .now) (a .pool .now) (a .rows .now) _ (c .before .before .before .before .before .before .before .before .before .before .before .before .before .before .before .before .before .pre) _ e (c .before .before .before .before .before .before .before .before .before .before .before .before .before .if1 .left)
 
--- src/lib.rt:70:1
 same-length-3 : tie.Need-same-length-3
 same-length-3 c = search needs
 
--- src/lib.rt:70:1
 same-length-4 : tie.Need-same-length-4
 same-length-4 c = search needs
 
--- src/lib.rt:70:1
 returns-3 : tie.Need-returns-3
 returns-3 c =
     let a = c .before .before .before .before .before .before .before .before .before .before .before .before .before .before .before .before .args in
@@ -99,15 +79,12 @@ returns-3 c =
     let e = sym (c .before .before .before .before .before .before .before .step .ensures) ∙ ap (stepOf _ _ _) (c .enum-told .given .1) in
     goes p (a .document .now) (a .pool .now) (a .rows .now) _ (c .before .before .before .before .before .before .before .before .before .before .before .before .before .before .before .before .pre) _ e (c .before .before .before .before .before .before .before .before .before .before .before .before .if1 .left)
 
--- src/lib.rt:70:1
 same-length-5 : tie.Need-same-length-5
 same-length-5 c = search needs
 
--- src/lib.rt:70:1
 same-length-6 : tie.Need-same-length-6
 same-length-6 c = search needs
 
--- src/lib.rt:70:1
 returns-4 : tie.Need-returns-4
 returns-4 c =
     let a = c .before .before .before .before .before .before .before .before .before .before .before .before .before .before .before .before .before .args in

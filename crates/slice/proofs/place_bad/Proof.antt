@@ -4,15 +4,11 @@ use Rattle.slice_spec.specs.Slice.{placeBad}
 use borrow.Author.Tests.{lt-ltb, le-ltb}
 use Rattle.slice.proofs.place_bad.Statement.{statement}
 use Rattle.slice.proofs.place_bad.Tie as tie
-use Rattle.slice.proofs.place_bad.Reads as reads
-use Rattle.slice.proofs.place_bad.Lts as lts
 
--- src/lib.rt:51:9
 returns : tie.Need-returns
 unfolding placeBad
 returns c = rw (lt-ltb _ _ (c .if1 .taken))
 
--- src/lib.rt:47:1
 returns-2 : tie.Need-returns-2
 unfolding placeBad
 returns-2 c = let a = c .before .before .before .args in rw (le-ltb _ _ (c .before .if1 .left)) (half-test (length (a .pool .now)) (a .place .names))

@@ -1,0 +1,13 @@
+mod Tests
+mod Searches
+mod Links
+mod Values
+mod Keeps
+mod Pools
+mod Noting
+mod Bytes
+mod Measures
+mod Turns
+mod Measuring
+mod Writing
+mod Calls

@@ -1,0 +1,188 @@
+-- The first pass: what holds before each row.
+use mathlib.Core.Bool.{Bool, true, false}
+use mathlib.Core.Option.{Option, none, some}
+use mathlib.Core.List.{List, [], _∷_, _++_, append-nil, append-assoc}
+use mathlib.Core.Path.{_≡_, refl, sym, ap, _∙_}
+use Prim.Native.Nat.{ℕ, zero, suc, _+_, _*_, _%_, _≤_, _<_}
+use native.Mathlib.Nat.{sub-zero}
+use native.Mathlib.Omega.{arith}
+use lib.ListN.{length, take, drop}
+use Rattle.event.specs.Row.{Row, hasName, rowAt}
+use Rattle.grammar.specs.Grammar.{most}
+use Rattle.grammar.specs.Document.{Pool}
+use Rattle.writer_spec.specs.Encode.{rowBytes, keepRow, keepRows}
+use Rattle.writer_spec.specs.Writer.{Lent, poolAt, rowRefusal, roomRefusal, ends, rowsRefusal, rowsIn}
+use Rattle.writer_spec.specs.Wrote.{keepRows-append}
+use Rattle.writer_spec.specs.Held.{rows-bounded}
+use Rattle.writer.specs.Answers.{lentOf}
+use Rattle.writer.specs.Notes.{Fresh, Unnoted}
+use Rattle.writer.specs.Passes.{roomOf, endsAt, Roomy, Enough, Grown, Settled, AllSettled, bad, found, Known, Kept, RowTakes, MeasureSays}
+use Rattle.writer.specs.declared.Measured.the-variants as Measured
+use Rattle.writer.specs.declared.Tally.{Tally}
+use Rattle.writer.proofs.Pools.{row-full}
+use Rattle.writer.proofs.Noting.{noted-none}
+use Rattle.writer.proofs.Turns.{rest, rest-more, rest-ends, rest-end, capped-small, refusal-capped, room-is, stops-row, stops-room, goes-in, goes-past}
+
+-- so many pairs are so many names
+pub pool-count : (output : List ℕ) (n : ℕ) (pairs : List ℕ) → length (poolAt output n pairs) ≡ n
+unfolding poolAt
+pool-count output zero pairs = refl
+pool-count output (suc n) pairs = ap suc (pool-count output n (drop 2 pairs))
+
+-- ---- names that are settled stay so
+
+module _ (first second : List ℕ) (pool : Pool) (r : Row) (notes notes′ : List ℕ)
+    (still : (n : List ℕ) → Unnoted first second notes′ n → Unnoted first second notes n) where
+  settled-more : (n : List ℕ) → Settled first second pool notes n → Settled first second (keepRow pool r) notes′ n
+  settled-more n s u = (let both = s (still n u) in rw (row-full pool r (both .1)) both)
+
+  all-more : (rs : List Row) → AllSettled first second pool notes rs → AllSettled first second (keepRow pool r) notes′ rs
+  all-more [] a = tt
+  all-more (q ∷ rs) a = (λ h. settled-more (q .name) (a .0 h), all-more rs (a .1))
+
+all-append : (first second : List ℕ) (pool : Pool) (notes : List ℕ) (rs : List Row) (r : Row) → AllSettled first second pool notes rs
+    → (hasName (r .kind) ≡ true → Settled first second pool notes (r .name)) → AllSettled first second pool notes (rs ++ (r ∷ []))
+all-append first second pool notes [] r a s = (s, tt)
+all-append first second pool notes (q ∷ rs) r a s = (a .0, all-append first second pool notes rs r (a .1) s)
+
+-- ---- the invariant
+
+module _ (first second output table rows : List ℕ) (kept written : ℕ) where
+  abbrev l : Lent
+  l = lentOf output table
+
+  abbrev all : List Row
+  all = rowsIn first second rows
+
+  abbrev names-bad : List ℕ → Bool
+  names-bad = bad first second output table kept
+
+  abbrev pool₀ : Pool
+  pool₀ = found first second output table kept
+
+  abbrev Whole : Option (ℕ × ℕ)
+  Whole = rowsRefusal l names-bad written pool₀ all
+
+  pub record Measuring (row : ℕ) (t : Tally) (notes heads : List ℕ) : Type 0 where
+    pub done : List Row
+    pub reaches : row ≤ length rows
+    pub aligned : row % 8 ≡ 0
+    pub split : done ++ rest first second rows row ≡ all
+    pub remains : rowsRefusal l names-bad (t .at) (keepRows pool₀ done) (rest first second rows row) ≡ Whole
+    pub names-are : length (keepRows pool₀ done) ≡ t .names
+    pub knows : Known first second output table kept (keepRows pool₀ done) (take (t .used) notes) heads
+    pub settled : AllSettled first second (keepRows pool₀ done) (take (t .used) notes) done
+    pub used-small : 8 * t .used ≤ 5 * row
+    pub used-fits : t .used ≤ length notes
+    pub at-small : t .at ≤ 16_777_217
+
+  pub begins : (notes heads : List ℕ) → Fresh heads → written ≤ 16_777_216 → Measuring 0 (record { at = written; names = kept; used = 0 }) notes heads
+  unfolding keepRows
+  begins notes heads f h =
+      let start : rest first second rows 0 ≡ all = rw sub-zero in
+      record {
+        done = [];
+        reaches = omega arith;
+        aligned = omega arith;
+        split = start;
+        remains = ap (rowsRefusal l names-bad written pool₀) start;
+        names-are = pool-count output kept table;
+        knows = noted-none first second names-bad pool₀ heads f;
+        settled = tt;
+        used-small = omega arith;
+        used-fits = omega arith;
+        at-small = omega arith;
+      }
+
+  module _ (row : ℕ) (t : Tally) (notes heads : List ℕ) (m : Measuring row t notes heads) where
+    abbrev pool : Pool
+    pool = keepRows pool₀ (m .done)
+
+    -- what a row's measuring asks for
+    pub kept-here : kept ≤ 65_535 → Kept first second output table kept (t .names) (take (t .used) notes) heads
+    unfolding most
+    kept-here h = (pool, m .names-are, rows-bounded (m .done) pool₀ (omega (arith, pool-count output kept table)), m .knows)
+
+    pub roomy-here : row < length rows → length rows % 8 ≡ 0 → Enough (length rows) (length notes) → Roomy (t .used) (length notes)
+    roomy-here h w e =
+        record {
+          in-use = m .used-fits;
+          room = λ b. omega (arith, e .enough b, m .used-small, m .aligned);
+        }
+
+    module _ (h : row < length rows) (w : length rows % 8 ≡ 0) where
+      abbrev pub this : Row
+      this = rowAt first second (drop row rows)
+
+      abbrev after : List Row
+      after = rest first second rows (row + 8)
+
+      this-first : rest first second rows row ≡ this ∷ after
+      this-first = rest-more first second rows w row (m .aligned) h
+
+      remains-here : rowsRefusal l names-bad (t .at) pool (this ∷ after) ≡ Whole
+      remains-here = ap (rowsRefusal l names-bad (t .at) pool) (sym this-first) ∙ m .remains
+
+      pub row-stops : (a b : ℕ) → rowRefusal names-bad this ≡ some (a, b) → Whole ≡ some (a, b)
+      row-stops a b e = sym remains-here ∙ stops-row l names-bad (t .at) pool this after (a, b) e
+
+      -- the row takes so much
+      module _ (u : Tally) (notes′ heads′ : List ℕ) (g : Grown (t .used) (u .used) (length notes′))
+          (k : RowTakes first second output table kept pool this (t .at) (u .at) (u .names) (take (t .used) notes) (take (u .used) notes′) heads′) where
+        abbrev pool′ : Pool
+        pool′ = keepRow pool this
+
+        abbrev place : ℕ
+        place = t .at + length (rowBytes pool this)
+
+        pool-next : keepRows pool₀ (m .done ++ (this ∷ [])) ≡ pool′
+        unfolding keepRows
+        pool-next = keepRows-append (m .done) (this ∷ []) pool₀
+
+        ends-here : ends after ≡ endsAt rows (row + 8)
+        ends-here = rest-ends first second rows w (row + 8) (omega (arith, m .aligned))
+
+        room-here : roomOf (length output) (length table) (u .at) (u .names) ≡ roomRefusal l place pool′
+        room-here = ap (λ (x : ℕ). roomOf (length output) (length table) x (u .names)) (k .at-is) ∙ room-is l names-bad place (u .names) pool′ (k .names-are)
+
+        pub room-stops : (a b : ℕ) → endsAt rows (row + 8) ≡ true → roomOf (length output) (length table) (u .at) (u .names) ≡ some (a, b) → Whole ≡ some (a, b)
+        room-stops a b e f = sym remains-here ∙ stops-room l names-bad (t .at) pool this after (k .passes) (a, b) (ends-here ∙ e) (sym room-here ∙ f)
+
+        next : length output ≤ 16_777_216 → rowsRefusal l names-bad (t .at) pool (this ∷ after) ≡ rowsRefusal l names-bad place pool′ after → Measuring (row + 8) u notes′ heads′
+        next small step =
+            record {
+              done = m .done ++ (this ∷ []);
+              reaches = omega (arith, m .aligned);
+              aligned = omega (arith, m .aligned);
+              split = append-assoc (m .done) (this ∷ []) after ∙ ap (λ (x : List Row). m .done ++ x) (sym this-first) ∙ m .split;
+              remains =
+                  rw pool-next
+                  (ap (λ (x : ℕ). rowsRefusal l names-bad x pool′ after) (k .at-is) ∙ refusal-capped l names-bad after place pool′ ∙ sym step ∙ remains-here);
+              names-are = ap length pool-next ∙ sym (k .names-are);
+              knows = rw pool-next (k .more .knows);
+              settled =
+                  rw pool-next
+                  (all-append first second pool′ (take (u .used) notes′) (m .done) this
+                  (all-more first second pool this (take (t .used) notes) (take (u .used) notes′) (k .more .still) (m .done) (m .settled)) (k .settled));
+              used-small = omega (arith, g .little, m .used-small);
+              used-fits = g .fits;
+              at-small = rw (k .at-is) (omega (arith, capped-small (length output) place));
+            }
+
+        pub goes-on : length output ≤ 16_777_216 → endsAt rows (row + 8) ≡ false → Measuring (row + 8) u notes′ heads′
+        goes-on small e = next small (goes-in l names-bad (t .at) pool this after (k .passes) (ends-here ∙ e))
+
+        pub goes-on-past : length output ≤ 16_777_216 → endsAt rows (row + 8) ≡ true → roomOf (length output) (length table) (u .at) (u .names) ≡ none
+            → Measuring (row + 8) u notes′ heads′
+        goes-on-past small e f = next small (goes-past l names-bad (t .at) pool this after (k .passes) (ends-here ∙ e) (sym room-here ∙ f))
+
+    -- all rows are measured
+    pub ended : length rows ≤ row → MeasureSays first second output table kept written all notes heads (Measured.Used (t .used))
+    unfolding rowsRefusal
+    ended h =
+        let none-left : rest first second rows row ≡ [] = rest-end first second rows row h in
+        let all-done : m .done ≡ all = sym (append-nil (m .done)) ∙ ap (λ (x : List Row). m .done ++ x) (sym none-left) ∙ m .split in
+        let passed : none ≡ Whole = ap (rowsRefusal l names-bad (t .at) pool) (sym none-left) ∙ m .remains in
+        let knows : Known first second output table kept (keepRows pool₀ all) (take (t .used) notes) heads = rw all-done at (m .knows) in
+        let settled : AllSettled first second (keepRows pool₀ all) (take (t .used) notes) all = rw all-done at (m .settled) in
+        (m .used-fits, sym passed, knows, settled)

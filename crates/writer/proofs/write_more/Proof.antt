@@ -1,0 +1,36 @@
+use native.Mathlib.Omega.{arith}
+use lib.ListN.{length}
+use Rattle.writer.proofs.Calls.{enough-of, slots-of, fresh}
+use borrow.Author.Needs.{needs}
+use Rattle.writer.proofs.write_more.Statement.{statement}
+use Rattle.writer.proofs.write_more.Tie as tie
+
+slice-aggregate-write-noted : tie.Need-slice-aggregate-write-noted
+slice-aggregate-write-noted c = search needs
+
+slice-aggregate-write-noted-2 : tie.Need-slice-aggregate-write-noted-2
+slice-aggregate-write-noted-2 c = search needs
+
+write-noted-requires : tie.Need-write-noted-requires
+write-noted-requires c κs = let p = c .before .before .before .before .before .before .before .before .before .pre in
+    (p .0, (p .1 .0, (p .1 .1 .0, (enough-of (length (c .before .before .before .before .before .before .before .before .before .args .rows .now)) 20480 (λ _. omega (arith, p .1 .1 .1)), (slots-of 4096 (omega arith) (omega arith), fresh 4096)))))
+
+same-length : tie.Need-same-length
+same-length c = search needs
+
+same-length-2 : tie.Need-same-length-2
+same-length-2 c = search needs
+
+returns : tie.Need-returns
+returns c = search needs
+
+pub write-more-spec : {M : Type 1} → statement M
+write-more-spec =
+    tie.close
+    (tie.spec
+    slice-aggregate-write-noted
+    slice-aggregate-write-noted-2
+    write-noted-requires
+    same-length
+    same-length-2
+    returns)

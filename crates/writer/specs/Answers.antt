@@ -1,0 +1,92 @@
+-- What the code's answers say in the terms of the definitions.
+use mathlib.Core.Bool.{Bool, cond}
+use mathlib.Core.Option.{Option, none, some}
+use mathlib.Core.List.{List}
+use Prim.Native.Nat.{ℕ}
+use Rattle.event.specs.Words.{listForms, eventForms}
+use Rattle.writer_spec.specs.Encode.{find}
+use Rattle.writer_spec.specs.Writer.{Lent, Reply, wrote, refused, Left, poolAt, meetsBad}
+use Rattle.writer_spec.specs.Writer as Spec
+use Rattle.writer.specs.declared.Writer.{Writer}
+use Rattle.writer.specs.declared.Written.{Written}
+use Rattle.writer.specs.declared.Written.the-variants as Written
+use Rattle.writer.specs.declared.Fault.{Fault}
+use Rattle.writer.specs.declared.Fault.the-variants as Fault
+use Rattle.writer.specs.declared.Size.{Size}
+use Rattle.writer.specs.declared.Size.the-variants as Size
+use Rattle.writer.specs.declared.Found.{Found}
+use Rattle.writer.specs.declared.Found.the-variants as Found
+use Rattle.writer.specs.declared.NameFound.{NameFound}
+use Rattle.writer.specs.declared.NameFound.the-variants as NameFound
+use Rattle.writer.specs.declared.Known.{Known}
+use Rattle.writer.specs.declared.Known.the-variants as Known
+
+-- ---- the public calls
+
+abbrev pub lentOf : List ℕ → List ℕ → Lent
+lentOf output table = record { output = output; table = table }
+
+abbrev pub stateOf : Writer → Spec.Writer
+stateOf w = record { written = w .written; names = w .names }
+
+abbrev pub replyOf : Written → Reply
+replyOf (Written.Wrote w) = wrote (stateOf w)
+replyOf (Written.Refused r) = refused (r .number) (r .detail)
+
+-- an answer, and what the output and the table hold at exit
+abbrev pub leftOf : Written → List ℕ → List ℕ → Left
+leftOf r output table = record { reply = replyOf r; lent = lentOf output table }
+
+-- exactly one event, or a list
+abbrev pub formsBy : Bool → List ℕ → List ℕ → List ℕ → Bool
+formsBy single first second rows = cond single (eventForms first second rows) (listForms first second rows)
+
+-- ---- measuring
+
+abbrev pub faultOf : Fault → Option (ℕ × ℕ)
+faultOf Fault.Nothing = none
+faultOf (Fault.Refused r) = some (r .number, r .detail)
+
+-- so many bytes, or a refusal
+pub data Measure : Type 0 where
+  takes : ℕ → Measure
+  stops : ℕ → ℕ → Measure
+
+abbrev pub measured : Option (ℕ × ℕ) → ℕ → Measure
+measured none n = takes n
+measured (some (number, detail)) n = stops number detail
+
+abbrev pub sizeOf : Size → Measure
+sizeOf (Size.Takes n) = takes n
+sizeOf (Size.Refused r) = stops (r .number) (r .detail)
+
+-- ---- the pool's search
+
+-- the place of the first equal entry; nothing at all where the search is refused
+unfoldable pub searched : List ℕ → ℕ → List ℕ → List ℕ → Option (Option ℕ)
+searched output n pairs name = cond (meetsBad output n pairs name) none (some (find (poolAt output n pairs) name))
+
+abbrev pub foundOf : Found → Option (Option ℕ)
+foundOf (Found.At i) = some (some i)
+foundOf Found.Nowhere = some none
+foundOf Found.Bad = none
+
+-- a place in the pool or none, or a refusal
+pub data Place : Type 0 where
+  placed : Option ℕ → Place
+  barred : ℕ → ℕ → Place
+
+abbrev pub placedBy : Option (ℕ × ℕ) → Option ℕ → Place
+placedBy none o = placed o
+placedBy (some (number, detail)) o = barred number detail
+
+abbrev pub nameFoundOf : NameFound → Place
+nameFoundOf (NameFound.At i) = placed (some i)
+nameFoundOf NameFound.Nowhere = placed none
+nameFoundOf (NameFound.Refused r) = barred (r .number) (r .detail)
+
+-- ---- writing
+
+abbrev pub knownOf : Known → Option ℕ
+knownOf (Known.At i) = some i
+knownOf Known.New = none

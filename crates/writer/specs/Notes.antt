@@ -1,0 +1,80 @@
+-- The notes that a call keeps of the names it has met: five words each, linked by slots.
+use mathlib.Core.Bool.{Bool, false, cond}
+use mathlib.Core.Option.{none, some}
+use mathlib.Core.List.{List}
+use mathlib.Core.Path.{_≡_}
+use Prim.Native.Nat.{ℕ, _+_, _*_, _-_, _/_, _%_, _≤_, _<_}
+use lib.Dec.{ltb, eqb}
+use lib.ListN.{length, getD}
+use Rattle.wire.specs.Header.{u32Of}
+use Rattle.event.specs.Span.{span}
+use Rattle.grammar.specs.Document.{Pool}
+use Rattle.writer_spec.specs.Encode.{find}
+use Rattle.writer_spec.specs.Faults.{stringFault}
+use Rattle.writer.specs.declared.Look.{Look}
+use Rattle.writer.specs.declared.Look.the-variants as Look
+
+-- a number's slot, among so many
+unfoldable pub slotBy : ℕ → ℕ → ℕ
+slotBy slots mixed = mixed % 4294967296 * 2654435761 % 4294967296 * slots / 4294967296
+
+abbrev front : List ℕ → ℕ
+front n = getD n 0 0 * 256 + getD n (length n / 2) 0 + length n * 65536
+
+abbrev tail : List ℕ → ℕ
+tail n = u32Of (getD n (length n - 4) 0) (getD n (length n - 3) 0) (getD n (length n - 2) 0) (getD n (length n - 1) 0)
+
+-- a name's slot: equal names have the same, and nothing else matters
+unfoldable pub slotOf : ℕ → List ℕ → ℕ
+slotOf slots n =
+    cond (eqb (length n) 0) 0
+    (cond (ltb (length n) 4) (slotBy slots (front n))
+    (slotBy slots (tail n + front n * 40503)))
+
+-- ---- a note's words: the name's span, its index in the pool, and the number of the note before it in its slot
+
+module _ (first second : List ℕ) where
+  unfoldable pub noteName : List ℕ → ℕ → List ℕ
+  noteName notes k = span first second (getD notes (5 * k) 0) (getD notes (5 * k + 1) 0) (getD notes (5 * k + 2) 0)
+
+  abbrev pub noteIndex : List ℕ → ℕ → ℕ
+  noteIndex notes k = getD notes (5 * k + 3) 0
+
+  abbrev pub noteLink : List ℕ → ℕ → ℕ
+  noteLink notes k = getD notes (5 * k + 4) 0
+
+  abbrev pub count : List ℕ → ℕ
+  count notes = length notes / 5
+
+  -- counted from 1, `next` is the last note below `top` that has the slot; 0 where there is none
+  pub record Chain (slots : ℕ) (notes : List ℕ) (slot next top : ℕ) : Type 0 where
+    pub below : next ≤ top
+    pub its-slot : (k : ℕ) → next ≡ k + 1 → slotOf slots (noteName notes k) ≡ slot
+    pub last : (j : ℕ) → next ≤ j → j < top → slotOf slots (noteName notes j) ≡ slot → ⊥
+
+  pub record Linked (notes heads : List ℕ) : Type 0 where
+    pub whole : length notes % 5 ≡ 0
+    pub by-heads : (slot : ℕ) → slot < length heads → Chain (length heads) notes slot (getD heads slot 0) (count notes)
+    pub by-links : (k : ℕ) → k < count notes → Chain (length heads) notes (slotOf (length heads) (noteName notes k)) (noteLink notes k) k
+
+  -- no note is of this name
+  abbrev pub Unnoted : List ℕ → List ℕ → Type 0
+  Unnoted notes n = (k : ℕ) → k < count notes → noteName notes k ≡ n → ⊥
+
+  abbrev pub LookSays : List ℕ → List ℕ → Look → Type 0
+  LookSays notes n (Look.At i) = (k : ℕ) × (k < count notes) × (noteName notes k ≡ n) × (noteIndex notes k ≡ i)
+  LookSays notes n Look.Nowhere = Unnoted notes n
+
+  -- What the notes say of the pool now, where it was `pool₀` when the call began: a note's name has no fault, its search
+  -- meets no bad pair, and it stands in the pool first at the note's index. A name with no note is where it was.
+  pub record Noted (bad : List ℕ → Bool) (pool₀ pool : Pool) (notes heads : List ℕ) : Type 0 where
+    pub linked : Linked notes heads
+    pub places : (k : ℕ) → k < count notes → find pool (noteName notes k) ≡ some (noteIndex notes k)
+    pub faultless : (k : ℕ) → k < count notes → stringFault (noteName notes k) ≡ none
+    pub searchable : (k : ℕ) → k < count notes → bad (noteName notes k) ≡ false
+    pub distinct : (j k : ℕ) → j < count notes → k < count notes → noteName notes j ≡ noteName notes k → j ≡ k
+    pub complete : (n : List ℕ) → Unnoted notes n → find pool n ≡ find pool₀ n
+
+-- no note yet
+abbrev pub Fresh : List ℕ → Type 0
+Fresh heads = (slot : ℕ) → getD heads slot 0 ≡ 0
