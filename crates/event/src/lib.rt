@@ -264,7 +264,8 @@ pub fn event_forms(first: &[u8], second: &[u8], rows: &[u32]) -> bool
 
 // ---- equal rows
 
-fn has_name(kind: u32) -> bool
+// Whether rows of this kind have a name.
+pub fn has_name(kind: u32) -> bool
     ensures { λ r. ⌜ r ≡ hasName kind ⌝ }
 {
     if kind == Command::START_TAG {

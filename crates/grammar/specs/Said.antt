@@ -46,6 +46,19 @@ valueWords-three k base table (Value.interned r) = refWords-three k base table r
 valueWords-three k base table (Value.word w) = refl
 valueWords-three k base table (Value.pair a b) = refl
 
+-- eight words a row
+pub item-length : (k base : ℕ) (table : List ℕ) (i : Item) → length (itemWords k base table i) ≡ 8
+unfolding itemWords
+item-length k base table i = rw (nameWords-three k base table (i .name), valueWords-three k base table (i .value))
+
+pub words-length : (k base : ℕ) (table : List ℕ) (is : Items) → length (words k base table is) ≡ 8 * count is
+unfolding words count
+words-length k base table (item i is) =
+    omega (arith, length-append (itemWords k base table i) (words k base table is), item-length k base table i, words-length k base table is)
+words-length k base table (whole n d) = refl
+words-length k base table (lacks n) = refl
+words-length k base table (stops n d) = refl
+
 -- three words name these bytes
 abbrev pub Looks : List ℕ → List ℕ → List ℕ → List ℕ → Type 0
 Looks w store ws b = span w store (getD ws 0 0) (getD ws 1 0) (getD ws 2 0) ≡ b
@@ -160,11 +173,3 @@ module _ (pooled : ℕ) (w store table : List ℕ) (from end : ℕ) (fe : from �
   rows-say t lo k pool (whole n d) y rest c e a = refl
   rows-say t lo k pool (lacks n) y rest c e a = refl
   rows-say t lo k pool (stops n d) y rest c e a = refl
-
-  pub words-length : (is : Items) → length (words pooled from table is) ≡ 8 * count is
-  unfolding words count itemWords
-  words-length (item i is) =
-      rw (nameWords-three pooled from table (i .name), valueWords-three pooled from table (i .value)) (omega (arith, words-length is))
-  words-length (whole n d) = refl
-  words-length (lacks n) = refl
-  words-length (stops n d) = refl

@@ -9,11 +9,11 @@ use lib.ListN.{length, take, drop}
 use lib.Seq.{sets, sets-eq, length-sets, take-at}
 use Rattle.grammar.specs.Choice.{byTest}
 use Rattle.grammar.specs.Grammar.{Span, Items, event}
+use Rattle.grammar.specs.Said.{words-length}
 use Rattle.grammar.specs.Scan.{sound, adds, lengths, pairs, copiedPairs, joined, count, words, Outcome}
 use Rattle.scanner.specs.declared.quick.Taken.{Taken}
 use Rattle.scanner.specs.Quick.{ReadEvent}
 use Rattle.scanner.specs.Step.{gives, Left, written, handOut, byOutcome, step, tooLong, outside, Quickly, declined, taken, readBy}
-use Rattle.scanner.proofs.Walk.{words-long}
 use Rattle.scanner.proofs.Stepping.{not-outside, step-read}
 
 module _ (is : Items) (names source base : ℕ) (table ws ws₁ : List ℕ) (t : Taken) (r : ReadEvent is names source base table ws ws₁ t) (l : length ws ≡ 80) where
@@ -21,7 +21,7 @@ module _ (is : Items) (names source base : ℕ) (table ws ws₁ : List ℕ) (t :
   its = words source base table is
 
   its-length : length its ≡ 8 * t .rows
-  its-length = words-long source base table is ∙ ap (λ (x : ℕ). 8 * x) (r .counted)
+  its-length = words-length source base table is ∙ ap (λ (x : ℕ). 8 * x) (r .counted)
 
   pub quick-long : 80 ≡ length ws₁
   quick-long = sym (ap length (r .stored) ∙ length-sets ws 0 its ∙ l)

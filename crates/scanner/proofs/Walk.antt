@@ -17,6 +17,7 @@ use Rattle.grammar.specs.Grammar.{Span, Ref, new, known, Value, Item, Items, it
 use Rattle.grammar.specs.Document.{typeOf}
 use Rattle.grammar.specs.Scan.{sound, addsItem, adds, pairs, count, spanWords, refWords, nameWords, valueWords, itemWords, words}
 use Rattle.grammar.specs.Choice.{byTest}
+use Rattle.grammar.specs.Said.{item-length}
 use Rattle.grammar.specs.Laws.{RefFits, NameFits, ValueFits, ItemFits, good-attribute, good-first}
 use Rattle.grammar.specs.Added.{countedName-adds, countedValue-adds, after-adds}
 use Rattle.grammar.specs.Stores.{sets-append, sound-sets}
@@ -258,40 +259,6 @@ module _ (base l : ℕ) (table : List ℕ) (h : base + l ≤ limit) where
         value-placed = value-placed-of (countedName k (i .name)) _ (i .value) (f .value-fits) (omega arith);
       }
 
--- a row has eight words
-module _ (p base : ℕ) (table : List ℕ) where
-  three-ref : (r : Ref) → length (refWords p base table r) ≡ 3
-  unfolding refWords spanWords
-  three-ref (new t) = refl
-  three-ref (known i) = refl
-
-  three-name : (r : Option Ref) → length (nameWords p base table r) ≡ 3
-  unfolding nameWords
-  three-name none = refl
-  three-name (some r) = three-ref r
-
-  three-value : (v : Value) → length (valueWords p base table v) ≡ 3
-  unfolding valueWords spanWords
-  three-value Value.nothing = refl
-  three-value Value.empty = refl
-  three-value (Value.span t) = refl
-  three-value (Value.interned r) = three-ref r
-  three-value (Value.word w) = refl
-  three-value (Value.pair a b) = refl
-
-  eight : (i : Item) → length (itemWords p base table i) ≡ 8
-  unfolding itemWords
-  eight i =
-      let v : List ℕ = valueWords p base table (i .value) in
-      omega (arith, length-append (nameWords p base table (i .name)) (typeOf (i .type) ∷ v), three-name (i .name), three-value (i .value))
-
-  pub words-long : (is : Items) → length (words p base table is) ≡ 8 * count is
-  unfolding words count
-  words-long (item i is) = omega (arith, length-append (itemWords p base table i) (words p base table is), eight i, words-long is)
-  words-long (whole n e) = refl
-  words-long (lacks k) = refl
-  words-long (stops n d) = refl
-
 -- the words of a row by its parts
 pub row-words : (rows : List ℕ) (to kind type type′ : ℕ) (n n′ v v′ : List ℕ) → n ≡ n′ → type ≡ type′ → v ≡ v′
     → sets rows to (kind ∷ (n ++ (type ∷ v))) ≡ sets rows to (kind ∷ (n′ ++ (type′ ∷ v′)))
@@ -356,7 +323,7 @@ module _ (pooled base : ℕ) (s : List ℕ) (S : ℕ → Bool) (table R : List �
               };
           rows-to =
               ap (λ (x : List ℕ). sets x (to + 8) (words pooled base table is)) e
-              ∙ ap (λ (x : ℕ). sets (sets rows to ws) (to + x) (words pooled base table is)) (sym (eight pooled base table i))
+              ∙ ap (λ (x : ℕ). sets (sets rows to ws) (to + x) (words pooled base table is)) (sym (item-length pooled base table i))
               ∙ sym (sets-append rows to ws (words pooled base table is))
               ∙ g .rows-to;
         }

@@ -17,9 +17,10 @@ use Rattle.grammar.specs.Document.{Pool, one, readOne, Reading, reads, ended, s
 use Rattle.grammar.specs.Scan.{adds, count, words, complete, bad, outcome}
 use Rattle.grammar.specs.Choice.{byTest}
 use Rattle.grammar.specs.Steps.{readS, readF-fuel}
+use Rattle.grammar.specs.Said.{words-length}
 use Rattle.slice_spec.specs.Slice.{Place, Created, created, byHeader, create, sizesBad, placeBad, itemsAt, tableAfter, placeAfter, Answer, gives, end, Left, unchanged, given, handOut, byOutcome, nextFrom, next}
 use Rattle.slice_spec.specs.Held.{Held, held-none}
-use Rattle.slice_spec.specs.Standing.{words-eight, Stands, There, nothing, refusal, event-of, there}
+use Rattle.slice_spec.specs.Standing.{Stands, There, nothing, refusal, event-of, there}
 
 -- ---- what is claimed
 
@@ -91,7 +92,7 @@ module _ (document : List ℕ) (pool : Pool) (p : Place) (table : List ℕ) (goo
     unfolding given placeAfter
     given-hands a b =
         let ws : List ℕ = words 0 (p .at) (tableAfter p table ts) is in
-        let lw : length ws ≡ 8 * count is = words-eight 0 (p .at) (tableAfter p table ts) is in
+        let lw : length ws ≡ 8 * count is = words-length 0 (p .at) (tableAfter p table ts) is in
         let said : rowsAt document [] (length (w .rows)) (sets rows 0 ws) ≡ w .rows = rw (sets-eq ws rows 0 (omega (arith, w .as-many))) (w .said b (drop (0 + length ws) rows)) in
         record {
           answered = ap gives (w .as-many);

@@ -13,11 +13,12 @@ use Rattle.grammar.specs.Grammar.{Span, Items, item, whole, lacks, stops}
 use Rattle.grammar.specs.Document.{Pool, rowOf, rowsOf, one, readOne, Reading, reads, ended, stopped, read}
 use Rattle.grammar.specs.Scan.{adds, count, words}
 use Rattle.grammar.specs.Steps.{readS}
+use Rattle.grammar.specs.Said.{words-length}
 use Rattle.slice_spec.specs.Slice.{Place, created, create, sizesBad, placeBad, itemsAt, tableAfter, placeAfter}
 use Rattle.slice_spec.specs.Queries.{Query, tableWith, find-attribute, attributes-of, find-all-attributes, all-attributes-of, Words, single, done, refused, Step, on, stop, after, Progress, Left, ends, split, concat, past, byStep, consume, kindOf, writes, byOutcome, queryF, query}
 use Rattle.slice_spec.specs.Held.{Held, held-none}
 use Rattle.slice_spec.specs.Kept.{drop-sets}
-use Rattle.slice_spec.specs.Standing.{words-eight, Stands, There, nothing, refusal, event-of, there}
+use Rattle.slice_spec.specs.Standing.{Stands, There, nothing, refusal, event-of, there}
 use Rattle.slice_spec.specs.Agreement.{Fresh, created-fresh, header-there, read-past}
 use Rattle.slice_spec.specs.Asked.{chosen, Eight, picked-say, picked-eight, split-eight, split-says, concat-length, rows-written}
 
@@ -97,7 +98,7 @@ module _ (q : Query) (document : List ℕ) (pool : Pool) (g : Progress) (n : ℕ
 
   ws-eight : Eight ws
   unfolding writes
-  ws-eight = picked-eight document q _ (split-eight (count is) wordsOf (words-eight 0 (g .place .at) (tableWith (g .place) (g .table) ts) is))
+  ws-eight = picked-eight document q _ (split-eight (count is) wordsOf (words-length 0 (g .place .at) (tableWith (g .place) (g .table) ts) is))
 
   ws-say : map (rowAt document []) ws ≡ chosen q (w .rows)
   unfolding writes

@@ -9,10 +9,10 @@ use lib.ListN.{length, take, drop, length-append}
 use lib.Seq.{sets, sets-eq, length-sets, take-at, drop-at, length-take-le}
 use lib.Dec.{ltb, eqb}
 use Rattle.grammar.specs.Grammar.{Span, Items}
+use Rattle.grammar.specs.Said.{words-length}
 use Rattle.grammar.specs.Scan.{adds, pairs, count, words, Outcome, complete, incomplete, bad, outcome}
 use Rattle.grammar.specs.Choice.{cond-by}
 use Rattle.grammar.specs.Stores.{pairs-length}
-use Rattle.slice_spec.specs.Standing.{words-eight}
 use Rattle.slice_spec.specs.Slice.{Place, sizesBad, placeBad, itemsAt, tableAfter, placeAfter, Answer, gives, end, Left, unchanged, given, handOut, byOutcome, nextFrom, next}
 
 -- ---- words stored from a place on leave those before and after them
@@ -73,7 +73,7 @@ given-frame p table rows is n ts a b =
     let ps : List ℕ = pairs (p .at) ts in
     let ws : List ℕ = words 0 (p .at) (sets table (2 * p .names) ps) is in
     let lp : length ps ≡ 2 * length ts = pairs-length (p .at) ts in
-    let lw : 0 + length ws ≡ 8 * count is = omega (arith, words-eight 0 (p .at) (sets table (2 * p .names) ps) is) in
+    let lw : 0 + length ws ≡ 8 * count is = omega (arith, words-length 0 (p .at) (sets table (2 * p .names) ps) is) in
     let past : 2 * p .names + length ps ≡ 2 * (p .names + length ts) = omega arith in
     record {
       rows-after = rw lw at (drop-sets rows ws 0 (omega arith));

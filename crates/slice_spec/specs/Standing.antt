@@ -5,7 +5,7 @@ use mathlib.Core.Path.{_≡_, refl, sym, ap, _∙_}
 use Prim.Native.Nat.{ℕ, zero, suc, _+_, _*_, _-_, _≤_}
 use native.Mathlib.Omega.{arith}
 use borrow.Author.Tests.{eqb-true, eqb-false}
-use lib.ListN.{length, take, drop, replicate, length-drop, length-replicate}
+use lib.ListN.{length, take, drop, length-drop}
 use lib.Seq.{sets, drop-drop, drop-length, take-length}
 use lib.Dec.{eqb}
 use Rattle.event.specs.Row.{Event, rowsAt}
@@ -17,7 +17,7 @@ use Rattle.grammar.specs.Laws.{Agree, agree-event}
 use Rattle.grammar.specs.Steps.{readS, Reads-on}
 use Rattle.grammar.specs.Outcomes.{complete-reads-on, incomplete-last}
 use Rattle.grammar.specs.Added.{these, AllIn, adds-in, grown, pool-adds}
-use Rattle.grammar.specs.Said.{rows-say, words-length}
+use Rattle.grammar.specs.Said.{rows-say}
 use Rattle.grammar.specs.Remaining.{count-rows}
 use Rattle.slice_spec.specs.Slice.{Place, itemsAt, tableAfter}
 use Rattle.slice_spec.specs.Queries.{tableWith}
@@ -50,11 +50,6 @@ bad-stops pool [] n d l h = absurd (omega arith)
 bad-stops pool (b ∷ s) n d l h = rw h
 
 -- ---- at a place
-
--- eight words a row
-pub words-eight : (pooled base : ℕ) (table : List ℕ) (is : Items) → length (words pooled base table is) ≡ 8 * count is
-words-eight pooled base table is =
-    words-length pooled (replicate base 0) [] table base base (omega arith) (omega (arith, length-replicate {A = ℕ} base 0)) [] (λ i k. absurd (omega arith)) is
 
 -- the event that stands at a place, of n bytes: the reading's next one, and what a reader makes of it
 pub record Stands (document : List ℕ) (pool : Pool) (p : Place) (table : List ℕ) (n : ℕ) : Type 0 where

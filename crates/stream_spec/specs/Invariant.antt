@@ -177,7 +177,7 @@ handed-out t rows from p is n e o going c₁ c₂ c₃ =
     let held : Held (poolOf s pool is) (r .names + length ts) (r .bytes + lengths ts) table store =
     rw (pool-adds s pool is, ← counts) (held-adds s ts pool (r .names) (r .bytes) (l .table) (l .store) (adds-in s [] 1 (r .names) (length pool) is _ ag) (p .held) c₂ c₃) in
     let finds = held-finds (l .window) (poolOf s pool is) _ _ table store held in
-    let lw : length ws ≡ 8 * count is = words-length 1 (l .window) store table from (r .end) (p .ordered) (p .placed) (poolOf s pool is) finds is in
+    let lw : length ws ≡ 8 * count is = words-length 1 from table is in
     let said : rowsAt (l .window) store (count is) (sets rows 0 ws) ≡ rowsOf s pool is =
     rw (sets-eq ws rows 0 (omega arith))
     (rows-say 1 (l .window) store table from (r .end) (p .ordered) (p .placed) (poolOf s pool is) finds [] 1 (length pool) pool is _ (drop (0 + length ws) rows) refl refl ag) in

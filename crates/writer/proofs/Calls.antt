@@ -1,5 +1,5 @@
 -- A call's own checks, and what it leaves when they are passed or not.
-use mathlib.Core.Bool.{Bool, true, false, _||_, cond, false≢true}
+use mathlib.Core.Bool.{Bool, true, false}
 use mathlib.Core.Option.{none, some}
 use mathlib.Core.List.{List}
 use mathlib.Core.Path.{_≡_, refl, sym}
@@ -9,22 +9,15 @@ use lib.Dec.{ltb, eqb}
 use lib.ListN.{length, take, replicate, length-replicate}
 use Rattle.wire.specs.Refusal.{badSize, badState, notRows}
 use Rattle.event.specs.Row.{Row}
-use Rattle.event.specs.Words.{rowsForm, listForms, eventForms}
+use Rattle.event.specs.Words.{listForms, eventForms}
 use Rattle.writer_spec.specs.Writer.{Writer, Lent, refused, Left, sizesBad, stateBad, poolAt, meetsBad, rowsRefusal, unless, refusal, append, write, rowsIn}
+use Rattle.grammar.specs.Choice.{neither}
+use Rattle.writer_spec.specs.Laws.{both-forms, pool-count}
 use Rattle.writer_spec.specs.Unrefused.{fits}
 use Rattle.writer.specs.Answers.{lentOf, formsBy}
 use Rattle.writer.specs.Notes.{Fresh}
 use Rattle.writer.specs.Passes.{most-notes, Enough, Slots, MeasureSays, Ready}
 use Rattle.writer.specs.declared.Measured.the-variants as Measured
-use Rattle.writer.proofs.Measuring.{pool-count}
-
-neither : (a b : Bool) → (a || b) ≡ false → (a ≡ false) × (b ≡ false)
-neither true b h = absurd (false≢true (sym h))
-neither false b h = (refl, h)
-
-both-forms : (a b : Bool) → cond a b false ≡ true → (a ≡ true) × (b ≡ true)
-both-forms true b h = (refl, h)
-both-forms false b h = absurd (false≢true h)
 
 -- ---- what passed checks say
 
@@ -44,10 +37,6 @@ module _ (first second rows : List ℕ) where
   pub whole-rows : listForms first second rows ≡ true → length rows % 8 ≡ 0
   unfolding listForms
   whole-rows h = eqb-true (length rows % 8) 0 (both-forms (eqb (length rows % 8) 0) _ h .0)
-
-  pub formed-rows : listForms first second rows ≡ true → rowsForm first second false (length rows / 8) rows ≡ true
-  unfolding listForms
-  formed-rows h = both-forms (eqb (length rows % 8) 0) _ h .1
 
   formed-list : eventForms first second rows ≡ true → listForms first second rows ≡ true
   unfolding eventForms

@@ -11,6 +11,7 @@ use Rattle.event.specs.Row.{Row, hasName, rowAt}
 use Rattle.grammar.specs.Grammar.{most}
 use Rattle.grammar.specs.Document.{Pool}
 use Rattle.writer_spec.specs.Encode.{rowBytes, keepRow, keepRows}
+use Rattle.writer_spec.specs.Laws.{pool-count}
 use Rattle.writer_spec.specs.Writer.{Lent, poolAt, rowRefusal, roomRefusal, ends, rowsRefusal, rowsIn}
 use Rattle.writer_spec.specs.Wrote.{keepRows-append}
 use Rattle.writer_spec.specs.Held.{rows-bounded}
@@ -24,11 +25,6 @@ use Rattle.writer.proofs.Noting.{noted-none}
 use Rattle.writer.proofs.Turns.{rest, rest-more, rest-ends, rest-end, capped-small, refusal-capped, room-is, stops-row, stops-room, goes-in, goes-past}
 
 -- so many pairs are so many names
-pub pool-count : (output : List ℕ) (n : ℕ) (pairs : List ℕ) → length (poolAt output n pairs) ≡ n
-unfolding poolAt
-pool-count output zero pairs = refl
-pool-count output (suc n) pairs = ap suc (pool-count output n (drop 2 pairs))
-
 -- ---- names that are settled stay so
 
 module _ (first second : List ℕ) (pool : Pool) (r : Row) (notes notes′ : List ℕ)

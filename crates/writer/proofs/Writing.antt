@@ -21,6 +21,7 @@ use Rattle.grammar.specs.Document.{Pool}
 use Rattle.grammar.specs.Stores.{sets-append}
 use Rattle.grammar.specs.Choice.{byTest}
 use Rattle.writer_spec.specs.Encode.{find, nameBytes, keep, rowBytes, keepRow, rowsBytes, keepRows}
+use Rattle.writer_spec.specs.Laws.{pool-count}
 use Rattle.writer_spec.specs.Writer.{wrote, rowPairs, rowsPairs, append, rowsIn}
 use Rattle.writer_spec.specs.Held.{pairs-count}
 use Rattle.writer.specs.Answers.{lentOf, leftOf}
@@ -28,7 +29,6 @@ use Rattle.writer.specs.Passes.{Settled, AllSettled, found, namedBy, row
 use Rattle.writer.specs.declared.Written.the-variants as Written
 use Rattle.writer.proofs.Pools.{keep-there, keep-new, keep-full, rows-grow}
 use Rattle.writer.proofs.Turns.{rest, rest-more, rest-end, form-more}
-use Rattle.writer.proofs.Measuring.{pool-count}
 
 -- ---- tokens are bytes
 

@@ -11,7 +11,7 @@ ghost use Prim.Native.Nat.{_+_, _*_, _/_, _%_, _≤_, _<_};
 ghost use lib.ListN.{length, getD, set, take};
 ghost use lib.Seq.{sets};
 ghost use Rattle.event.specs.Span.{span, same};
-ghost use Rattle.event.specs.Row.{shape, hasName, rowAt};
+ghost use Rattle.event.specs.Row.{shape, rowAt};
 ghost use Rattle.event.specs.Words.{rowsForm, listForms};
 ghost use Rattle.writer_spec.specs.Encode.{be16, be32, sized, valueBytes, find};
 ghost use Rattle.writer_spec.specs.Faults.{stringFault, blobFault, valueFault};
@@ -64,19 +64,6 @@ fn state_bad(writer: Writer, output: &[u8], pool: &[u32]) -> bool
 }
 
 // ---- a row's strings
-
-// Whether a row of this kind has a name.
-fn has_name(kind: u32) -> bool
-    ensures { λ r. ⌜ r ≡ hasName kind ⌝ }
-{
-    if kind == Command::START_TAG {
-        return true;
-    }
-    if kind == Command::END_TAG {
-        return true;
-    }
-    kind == Command::ATTRIBUTE
-}
 
 // The span of a row's name.
 fn name_in<'a>(first: &'a [u8], second: &'a [u8], w: &[u32]) -> &'a [u8]
@@ -407,7 +394,7 @@ fn name_size<'a>(
     requires { ⌜ Kept (now first) (now second) (now output) (now pool) kept names (take used (now notes)) (now heads) ⌝ }
     ensures { λ r. ⌜ RowNameMeasured (now (first .entry)) (now (second .entry)) (now (output .entry)) (now (pool .entry)) kept names (rowAt (now (first .entry)) (now (second .entry)) (now (w .entry))) used (now (notes .entry)) (now (heads .entry)) (now (notes .exit)) (now (heads .exit)) r ⌝ }
 {
-    if has_name(w[0]) {
+    if event::has_name(w[0]) {
         let name = name_in(first, second, w);
         let slot = slot_of(name, heads.len());
         return match look_up(first, second, w, name, &notes[..used], heads, slot) {
@@ -616,7 +603,7 @@ fn known_name<'a>(
     requires { ⌜ Linked (now first) (now second) (now notes) (now heads) ⌝ }
     ensures { λ r. ⌜ KnownSays (now (first .entry)) (now (second .entry)) (now (notes .entry)) (now (heads .entry)) names (rowAt (now (first .entry)) (now (second .entry)) (now (w .entry))) r ⌝ }
 {
-    if has_name(w[0]) {
+    if event::has_name(w[0]) {
         let name = name_in(first, second, w);
         let slot = slot_of(name, heads.len());
         if let Look::At(i) = look_up(first, second, w, name, notes, heads, slot) {
@@ -684,7 +671,7 @@ fn put_name<'a>(
     ensures bytes { λ r. ⌜ now (output .exit) ≡ sets (now (output .entry)) at (namedBy (knownOf known) (rowAt (now (first .entry)) (now (second .entry)) (now (w .entry)))) ⌝ }
     ensures place { λ r. ⌜ r ≡ at + length (namedBy (knownOf known) (rowAt (now (first .entry)) (now (second .entry)) (now (w .entry)))) ⌝ }
 {
-    if has_name(w[0]) {
+    if event::has_name(w[0]) {
         return match known {
             Known::At(i) => {
                 put_u16(output, at, i as usize);
@@ -782,7 +769,7 @@ fn keep_name<'a>(
     ensures pairs { λ r. ⌜ now (pool .exit) ≡ sets (now (pool .entry)) (2 * names) (pairsBy (knownOf known) (rowAt (now (first .entry)) (now (second .entry)) (now (w .entry))) names at) ⌝ }
     ensures count { λ r. ⌜ r ≡ cond (joinsBy (knownOf known) (rowAt (now (first .entry)) (now (second .entry)) (now (w .entry))) names) (names + 1) names ⌝ }
 {
-    if has_name(w[0]) {
+    if event::has_name(w[0]) {
         if let Known::New = known {
             if wire::INTERNED_NEW as usize > names {
                 let name = name_in(first, second, w);

@@ -108,7 +108,7 @@ write-wrote formed es w w′ l rs h e =
 abbrev pub eventsIn : List ℕ → List ℕ → List ℕ → List Event
 eventsIn first second rows = group (rowsIn first second rows)
 
-both-forms : (a b : Bool) → cond a b false ≡ true → (a ≡ true) × (b ≡ true)
+pub both-forms : (a b : Bool) → cond a b false ≡ true → (a ≡ true) × (b ≡ true)
 both-forms true b h = (refl, h)
 both-forms false b h = absurd (false≢true h)
 
@@ -127,7 +127,7 @@ single-event first second zero w h = absurd (false≢true h)
 single-event first second (suc n) w h = one-event first second n (drop 8 w) (rowAt first second w) h
 
 module _ (first second rows : List ℕ) where
-  list-rows : listForms first second rows ≡ true → rowsForm first second false (length rows / 8) rows ≡ true
+  pub list-rows : listForms first second rows ≡ true → rowsForm first second false (length rows / 8) rows ≡ true
   unfolding listForms
   list-rows h = both-forms (eqb (length rows % 8) 0) _ h .1
 
@@ -170,7 +170,7 @@ module _ (first second rows : List ℕ) where
 
 -- ---- the state and the buffers that a call leaves
 
-pool-count : (output : List ℕ) (n : ℕ) (pairs : List ℕ) → length (poolAt output n pairs) ≡ n
+pub pool-count : (output : List ℕ) (n : ℕ) (pairs : List ℕ) → length (poolAt output n pairs) ≡ n
 unfolding poolAt
 pool-count output zero pairs = refl
 pool-count output (suc n) pairs = ap suc (pool-count output n (drop 2 pairs))

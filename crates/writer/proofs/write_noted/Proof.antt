@@ -3,7 +3,8 @@ use mathlib.Core.Path.{sym, _∙_}
 use lib.Seq.{length-take-le}
 use Rattle.writer_spec.specs.Writer.{rowsIn}
 use Rattle.writer.specs.Answers.{lentOf, stateOf}
-use Rattle.writer.proofs.Calls.{sizes-passed, state-passed, whole-rows, formed-rows, stops-rows, goes-through, measured-ready}
+use Rattle.writer_spec.specs.Laws.{list-rows}
+use Rattle.writer.proofs.Calls.{sizes-passed, state-passed, whole-rows, stops-rows, goes-through, measured-ready}
 use borrow.Author.Needs.{needs}
 use Rattle.writer.proofs.write_noted.Statement.{statement}
 use Rattle.writer.proofs.write_noted.Tie as tie
@@ -45,7 +46,7 @@ write-rows-requires c κs = let a = c .before .before .before .before .before .b
     let sizes = sizes-passed o t (p .1 .0) in
     let state = state-passed o t (stateOf (a .writer)) (p .1 .1 .0) in
     let said = rw (c .before .before .before .before .before .used .given .1) at (c .before .before .before .before .before .before .before .before .before .before .before .measure .ensures) in
-    (whole-rows f s w (p .0), (formed-rows f s w (p .0), (sizes .0, (rw (c .before .before .before .before .before .before .before .before .before .before .before .measure .kept .1 .1 .1 .1 .1 .1 .1 .0) (p .1 .1 .1 .1 .0), measured-ready f s o t w _ _ (a .writer .names) (a .writer .written) _ (state .0) (state .1) said))))
+    (whole-rows f s w (p .0), (list-rows f s w (p .0), (sizes .0, (rw (c .before .before .before .before .before .before .before .before .before .before .before .measure .kept .1 .1 .1 .1 .1 .1 .1 .0) (p .1 .1 .1 .1 .0), measured-ready f s o t w _ _ (a .writer .names) (a .writer .written) _ (state .0) (state .1) said))))
 
 same-length : tie.Need-same-length
 same-length c = search needs
