@@ -12,3 +12,5 @@ mod Stepping
 mod Flats
 mod Turns
 mod Quickly
+mod Choosing
+mod Picking

@@ -249,7 +249,7 @@ module _ (base l : ℕ) (table : List ℕ) (h : base + l ≤ limit) where
   value-placed-of k g (Value.word w) f n = tt
   value-placed-of k g (Value.pair a b) f n = tt
 
-  item-placed : (k : ℕ) (i : Item) → ItemFits l k i → 2 * after k i ≤ length table → ItemPlaced base table i
+  pub item-placed : (k : ℕ) (i : Item) → ItemFits l k i → 2 * after k i ≤ length table → ItemPlaced base table i
   unfolding after
   item-placed k i f n =
       let a = countedName-adds k (i .name) in

@@ -3,3 +3,4 @@ pub mod Tally
 pub mod Keep
 pub mod Step
 pub mod Quick
+pub mod Select

@@ -1,6 +1,7 @@
 // The scanner of both readers: readers of one event's fields, rows and attributes; a first pass over an event, which measures; a
 // second, which writes; and the step made of both. A place is counted from the event's first byte, where the slice starts.
 mod quick;
+pub mod select;
 
 use event::Shape;
 use quick::Taken;

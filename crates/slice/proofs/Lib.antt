@@ -1,1 +1,2 @@
 mod Onward
+mod Turning

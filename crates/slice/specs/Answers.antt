@@ -4,11 +4,18 @@ use Prim.Native.Nat.{ℕ, _*_, _≤_}
 use lib.ListN.{length}
 use Rattle.slice_spec.specs.Slice.{Place, Left, Answer, gives, end}
 use Rattle.slice_spec.specs.Slice as Defined
+use Rattle.slice_spec.specs.Queries.{Ending, found, done, Step, on, stop}
+use Rattle.slice_spec.specs.Queries as Asked
 use Rattle.slice.specs.declared.Place as Coded
 use Rattle.slice.specs.declared.Created.{Created}
 use Rattle.slice.specs.declared.Created.the-variants as Created
 use Rattle.slice.specs.declared.Next.{Next}
 use Rattle.slice.specs.declared.Next.the-variants as Next
+use Rattle.slice.specs.declared.queries.Reached.{Reached}
+use Rattle.slice.specs.declared.queries.Queried.{Queried}
+use Rattle.slice.specs.declared.queries.Queried.the-variants as Queried
+use Rattle.slice.specs.declared.queries.Onward.{Onward}
+use Rattle.slice.specs.declared.queries.Onward.the-variants as Onward
 
 abbrev pub placeOf : Coded.Place → Place
 placeOf p = record { at = p .at; names = p .names }
@@ -32,3 +39,20 @@ pub record Fits (p : Place) (document table : List ℕ) : Type 0 where
   pub names-fit : 2 * p .names ≤ length table
   pub document-small : length document ≤ 16_777_216
   pub table-small : length table ≤ 131_070
+
+-- ---- queries
+
+abbrev pub stepOf : Onward → Step
+stepOf Onward.Next = on
+stepOf Onward.Found = stop found
+stepOf Onward.Done = stop done
+
+-- what a query leaves: how far it came, with the lent words as they are then
+abbrev pub leaves : List ℕ → List ℕ → Reached → Ending → Asked.Left
+leaves table rows r e =
+    record { ending = e; progress = record { place = placeOf (r .place); table = table; rows = rows; events = r .events; written = r .rows } }
+
+abbrev pub leftOf : List ℕ → List ℕ → Queried → Asked.Left
+leftOf table rows (Queried.Found r) = leaves table rows r found
+leftOf table rows (Queried.Done r) = leaves table rows r done
+leftOf table rows (Queried.Refused r reached) = leaves table rows reached (Ending.refused (r .number) (r .detail))

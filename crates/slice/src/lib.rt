@@ -1,5 +1,7 @@
 // The slice reader: it reads a document that lies in one slice, event by event. Its state is a place; the document, the pool
 // table and the rows are lent to each call.
+pub mod queries;
+
 use scanner::Stepped;
 use wire::Header;
 use wire::Refusal;

@@ -11,3 +11,4 @@ pub mod Consumed
 pub mod Calls
 pub mod Stored
 pub mod Runs
+pub mod Turns

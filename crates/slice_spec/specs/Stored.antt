@@ -38,7 +38,7 @@ module _ (pooled base : ℕ) (u rest : List ℕ) where
   value-front l k s (Value.word w) f h = refl
   value-front l k s (Value.pair a b) f h = refl
 
-  words-front : (s t : List ℕ) (lo k : ℕ) (is y : Items) → Agree s t k lo is y → 2 * (k + length (adds k is)) ≤ length u
+  pub words-front : (s t : List ℕ) (lo k : ℕ) (is y : Items) → Agree s t k lo is y → 2 * (k + length (adds k is)) ≤ length u
       → words pooled base (u ++ rest) is ≡ words pooled base u is
   unfolding words itemWords adds addsItem
   words-front s t lo k (item i is) y a h =

@@ -1,0 +1,4 @@
+pub mod Nesting
+pub mod Reading
+pub mod Laws
+pub mod Runs

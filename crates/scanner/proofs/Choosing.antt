@@ -1,0 +1,330 @@
+-- The rows of an event that a query takes, one after another.
+use mathlib.Core.Bool.{Bool, true, false, _||_, _&&_, cond}
+use mathlib.Core.Option.{Option}
+use mathlib.Core.List.{List, [], _∷_, _++_, append-nil, append-assoc}
+use mathlib.Core.Path.{_≡_, refl, sym, ap, _∙_}
+use Prim.Native.Nat.{ℕ, suc, _+_, _*_, _≤_, _<_}
+use native.Mathlib.Nat.{add-zero}
+use native.Mathlib.Omega.{arith}
+use borrow.Author.Tests.{eq-eqb, ne-eqb, eqb-true, eqb-false}
+use lib.Dec.{eqb, leb}
+use lib.ListN.{length, take, drop, length-append}
+use lib.Seq.{sets, length-sets, take-nil, drop-nil}
+use Rattle.wire.specs.Token as Token
+use Rattle.event.specs.Span.{part, span, text, same}
+use Rattle.event.specs.Row.{hasName, rowAt}
+use Rattle.grammar.specs.Reader.{got}
+use Rattle.grammar.specs.Grammar.{Item, Items, item, whole, lacks, stops, after, first, event}
+use Rattle.grammar.specs.Scan.{sound, addsItem, adds, nameWords, itemWords}
+use Rattle.grammar.specs.Choice.{byTest, cond-by}
+use Rattle.grammar.specs.Said.{item-length}
+use Rattle.grammar.specs.Laws.{ItemFits}
+use Rattle.grammar.specs.Added.{after-adds}
+use Rattle.grammar.specs.Stores.{sets-append}
+use Rattle.slice_spec.specs.Queries.{Words, named, isElement, concat, kindOf}
+use Rattle.scanner.specs.declared.Pool.{Pool}
+use Rattle.scanner.specs.Keep.{PoolAfter, Keepable, ItemPlaced}
+use Rattle.scanner.proofs.Rest.{rest}
+use Rattle.scanner.proofs.Walk.{soundOf, item-placed, first-fits, event-tag, event-single}
+use Rattle.scanner.specs.declared.select.Query.{Query}
+use Rattle.scanner.specs.Select.{takesAll, takesOne, rowsOf, taken, chosen, Room, Chose}
+
+-- ---- tests
+
+both-left : (a b : Bool) → (a && b) ≡ true → a ≡ true
+both-left true b h = refl
+both-left false b h = h
+
+-- ---- a row's name
+
+-- a span's bytes, where there is no second store
+empty-part : (a b : ℕ) → part [] a b ≡ []
+unfolding part
+empty-part a b = cond-by (λ (x : List ℕ). x ≡ []) (leb (a + b) 0) _ _ (λ _. ap (take b) (drop-nil a) ∙ take-nil b) (λ _. refl)
+
+alone : (document : List ℕ) (s a b : ℕ) → span document [] s a b ≡ text document s a b
+unfolding span text
+alone document s a b =
+    byTest (eqb s 0) (λ e. rw e) (λ e. rw e (cond-by (λ (x : List ℕ). x ≡ []) (eqb s 1) _ _ (λ _. empty-part a b) (λ _. refl)))
+
+module _ (document name : List ℕ) (base : ℕ) (table : List ℕ) (i : Item) where
+  pub named-by : (b : Bool) (s a l : ℕ) → hasName (i .kind) ≡ true → s ∷ a ∷ l ∷ [] ≡ nameWords 0 base table (i .name)
+      → b ≡ same (text document s a l) name → b ≡ named document name (itemWords 0 base table i)
+  unfolding named rowAt itemWords
+  named-by b s a l h e f = f ∙ rw (h, ← e, alone document s a l)
+
+  same-empty : (b : Bool) (name : List ℕ) → b ≡ eqb (length name) 0 → b ≡ same [] name
+  unfolding same
+  same-empty b [] e = e
+  same-empty b (x ∷ xs) e = e ∙ ne-eqb (suc (length xs)) 0 (λ z. omega arith)
+
+  pub unnamed-by : (b : Bool) → hasName (i .kind) ≡ false → b ≡ eqb (length name) 0 → b ≡ named document name (itemWords 0 base table i)
+  unfolding named rowAt itemWords
+  unnamed-by b h e = same-empty b name e ∙ rw h
+
+  pub element-by : (b : Bool) → i .kind ≡ Token.startTag → b ≡ named document name (itemWords 0 base table i) → b ≡ isElement document name (itemWords 0 base table i)
+  unfolding isElement itemWords
+  element-by b k e = e ∙ rw (eq-eqb (i .kind) Token.startTag k)
+
+  pub element-not : (i .kind ≡ Token.startTag → ⊥) → false ≡ isElement document name (itemWords 0 base table i)
+  unfolding isElement itemWords
+  element-not k = rw (ne-eqb (i .kind) Token.startTag k)
+
+-- ---- what is left after a row
+
+module _ (base : ℕ) (s table : List ℕ) (i : Item) (is : Items) (p : Pool) (k : Keepable base s (item i is) p table) where
+  row-placed : ItemFits (length s) (p .names) i → ItemPlaced base table i
+  unfolding adds
+  row-placed f =
+      let m : 2 * after (p .names) i ≤ length table = omega (arith, after-adds (p .names) i, length-append (addsItem (p .names) i) (adds (after (p .names) i) is), k .pairs-fit) in
+      item-placed base (length s) table (k .in-store) (p .names) i f m
+
+  keepable-next : (q : Pool) → PoolAfter (after (p .names) i) p q → Keepable base s is q table
+  unfolding adds
+  keepable-next q a =
+      let n = after-adds (p .names) i in
+      record {
+        ended = k .ended;
+        in-store = k .in-store;
+        pairs-fit = rw (a .names-are) (omega (arith, k .pairs-fit, length-append (addsItem (p .names) i) (adds (after (p .names) i) is)));
+        kept-first = omega (arith, k .kept-first, a .kept-stays, a .names-are);
+      }
+
+keepable-as : (base : ℕ) (s table : List ℕ) (p : Pool) (a b : Items) → a ≡ b → Keepable base s a p table → Keepable base s b p table
+keepable-as base s table p a b e k = rw (← e) k
+
+sound-next : (S : ℕ → Bool) (table : List ℕ) (n : ℕ) (p q : Pool) → PoolAfter n p q → sound (p .kept) table (p .stored) ≡ S → sound (q .kept) table (q .stored) ≡ S
+sound-next S table n p q a e = ap (λ (x : ℕ). sound x table (q .stored)) (a .kept-stays) ∙ ap (λ (x : ℕ). sound (p .kept) table x) (a .stored-stays) ∙ e
+
+-- ---- attributes that are taken
+
+-- a row that is stored, or not
+pub put-long : (write : Bool) (rows : List ℕ) (to : ℕ) (w rows₁ : List ℕ) → rows₁ ≡ cond write (sets rows to w) rows → length rows₁ ≡ length rows
+put-long write rows to w rows₁ z = ap length z ∙ cond-by (λ (x : List ℕ). length x ≡ length rows) write _ _ (λ _. length-sets rows to w) (λ _. refl)
+
+module _ (base : ℕ) (s : List ℕ) (S : ℕ → Bool) (table document name : List ℕ) (all one write : Bool) (to N : ℕ) (R : List ℕ) where
+  abbrev of : Items → List Words
+  of is = taken all one document name (rowsOf base table is)
+
+  -- what is left of these rows: so many are taken in the end, and they make the words R
+  pub record Taking (is : Items) (pool : Pool) (rows : List ℕ) (count : ℕ) : Type 0 where
+    pub same-sound : sound (pool .kept) table (pool .stored) ≡ S
+    pub keepable : Keepable base s is pool table
+    pub room : write ≡ true → to + 8 * (count + length (of is)) ≤ length rows
+    pub count-to : count + length (of is) ≡ N
+    pub rows-to : cond write (sets rows (to + 8 * count) (concat (of is))) rows ≡ R
+
+  pub taking-as : (a b : Items) (pool : Pool) (rows : List ℕ) (count : ℕ) → a ≡ b → Taking a pool rows count → Taking b pool rows count
+  taking-as a b pool rows count e g = rw (← e) g
+
+  pub taking-start : (is : Items) (p : Pool) (rows : List ℕ) → sound (p .kept) table (p .stored) ≡ S → Keepable base s is p table → Room write to (length (of is)) rows
+      → length (of is) ≡ N → cond write (sets rows to (concat (of is))) rows ≡ R → Taking is p rows 0
+  taking-start is p rows e k r n w =
+      let z : to + 8 * 0 ≡ to = omega arith in
+      record { same-sound = e; keepable = k; room = λ t. omega (arith, r .fits t); count-to = omega arith; rows-to = rw z w }
+
+  pub taking-done : (n : ℕ) (e : Bool) (p : Pool) (rows : List ℕ) (count : ℕ) → Taking (whole n e) p rows count → (count ≡ N) × (rows ≡ R)
+  unfolding rowsOf taken concat
+  taking-done n e p rows count g = (sym (add-zero count) ∙ g .count-to, cond-by (λ (x : List ℕ). x ≡ R → rows ≡ R) write _ _ (λ _ z. z) (λ _ z. z) (g .rows-to))
+
+  module _ (i : Item) (is : Items) (p : Pool) (rows : List ℕ) (count : ℕ) (g : Taking (item i is) p rows count) (f : ItemFits (length s) (p .names) i) where
+    pub taking-placed : ItemPlaced base table i
+    taking-placed = row-placed base s table i is p (g .keepable) f
+
+    abbrev w : Words
+    w = itemWords 0 base table i
+
+    pub taking-room : (all || named document name w) ≡ true → write ≡ true → (to + 8 * count) + 8 ≤ length rows
+    unfolding rowsOf taken
+    taking-room h e = omega (arith, g .room e, few)
+      where
+        few : 1 ≤ length (of (item i is))
+        few = rw h (omega arith)
+
+    module _ (q : Pool) (a : PoolAfter (after (p .names) i) p q) where
+      sound-stays : sound (q .kept) table (q .stored) ≡ S
+      sound-stays = sound-next S table _ p q a (g .same-sound)
+
+      keepable-on : Keepable base s is q table
+      keepable-on = keepable-next base s table i is p (g .keepable) q a
+
+      pub taking-skip : (all || named document name w) ≡ false → Taking is q rows count
+      unfolding rowsOf taken
+      taking-skip h =
+          let e : of (item i is) ≡ of is = rw h in
+          record {
+            same-sound = sound-stays;
+            keepable = keepable-on;
+            room = λ t. rw (← e) (g .room t);
+            count-to = rw (← e) (g .count-to);
+            rows-to = rw (← e) (g .rows-to);
+          }
+
+      module _ (h : (all || named document name w) ≡ true) (rows₁ : List ℕ) (z : rows₁ ≡ cond write (sets rows (to + 8 * count) w) rows) where
+        long : length rows₁ ≡ length rows
+        long = put-long write rows (to + 8 * count) w rows₁ z
+
+        pub taking-more : one ≡ false → Taking is q rows₁ (count + 1)
+        unfolding rowsOf taken concat
+        taking-more o =
+            let e : of (item i is) ≡ w ∷ of is = rw (h, o) in
+            let l : length (of (item i is)) ≡ suc (length (of is)) = ap length e in
+            record {
+              same-sound = sound-stays;
+              keepable = keepable-on;
+              room = λ t. omega (arith, g .room t, long);
+              count-to = omega (arith, g .count-to);
+              rows-to = byTest write (λ t. wrote e t) (λ t. kept t);
+            }
+          where
+            wrote : of (item i is) ≡ w ∷ of is → write ≡ true → cond write (sets rows₁ (to + 8 * (count + 1)) (concat (of is))) rows₁ ≡ R
+            wrote e t =
+                let n : to + 8 * (count + 1) ≡ (to + 8 * count) + length w = omega (arith, item-length 0 base table i) in
+                let z′ : rows₁ ≡ sets rows (to + 8 * count) w = z ∙ rw t in
+                rw (t, n, z′, ← sets-append rows (to + 8 * count) w (concat (of is))) (rw (t, e) at (g .rows-to))
+
+            kept : write ≡ false → cond write (sets rows₁ (to + 8 * (count + 1)) (concat (of is))) rows₁ ≡ R
+            kept t = rw t (z ∙ rw t (rw t at (g .rows-to)))
+
+        pub taking-one : one ≡ true → (count + 1 ≡ N) × (rows₁ ≡ R)
+        unfolding rowsOf taken concat
+        taking-one o =
+            let e : of (item i is) ≡ w ∷ [] = rw (h, o) in
+            let l : length (of (item i is)) ≡ 1 = ap length e in
+            (omega (arith, g .count-to), byTest write (λ t. wrote e t) (λ t. kept t))
+          where
+            wrote : of (item i is) ≡ w ∷ [] → write ≡ true → rows₁ ≡ R
+            wrote e t = z ∙ rw t (rw (t, e, append-nil w) at (g .rows-to))
+
+            kept : write ≡ false → rows₁ ≡ R
+            kept t = z ∙ rw t (rw t at (g .rows-to))
+
+  -- an attribute's row
+  pub taking-next : (i : Item) (n : ℕ) (p q : Pool) (rows : List ℕ) (count : ℕ) → PoolAfter (after (p .names) i) p q → Taking (rest S s (after (p .names) i) n) q rows count
+      → Taking (rest S s (q .names) n) q rows count
+  taking-next i n p q rows count a g = taking-as _ _ q rows count (ap (λ (x : ℕ). rest S s x n) (sym (a .names-are))) g
+
+-- ---- an event's own row, then its attributes
+
+concat-append : (a b : List Words) → concat (a ++ b) ≡ concat a ++ concat b
+unfolding concat
+concat-append [] b = refl
+concat-append (w ∷ a) b = ap (λ (x : List ℕ). w ++ x) (concat-append a b) ∙ sym (append-assoc w (concat a) (concat b))
+
+pub chose-both : (write : Bool) (to : ℕ) (a b : List Words) (rows rows₁ rows₂ : List ℕ) (n m : ℕ) → length (concat a) ≡ 8 * length a → Chose write to a rows rows₁ n
+    → Chose write (to + 8 * n) b rows₁ rows₂ m → Chose write to (a ++ b) rows rows₂ (n + m)
+chose-both write to a b rows rows₁ rows₂ n m l x y = record {
+  counted = omega (arith, x .counted, y .counted, length-append a b);
+  rows-are = byTest write wrote kept;
+}
+  where
+    wrote : write ≡ true → rows₂ ≡ cond write (sets rows to (concat (a ++ b))) rows
+    wrote t =
+        let e : to + 8 * n ≡ to + length (concat a) = omega (arith, x .counted) in
+        let z : rows₁ ≡ sets rows to (concat a) = x .rows-are ∙ rw t in
+        let u : rows₂ ≡ sets rows₁ (to + 8 * n) (concat b) = y .rows-are ∙ rw t in
+        u ∙ rw (t, z, e, concat-append a b, sets-append rows to (concat a) (concat b))
+
+    kept : write ≡ false → rows₂ ≡ cond write (sets rows to (concat (a ++ b))) rows
+    kept t =
+        let z : rows₁ ≡ rows = x .rows-are ∙ rw t in
+        let u : rows₂ ≡ rows₁ = y .rows-are ∙ rw t in
+        u ∙ z ∙ rw t
+
+-- the row alone, where it is taken
+pub chose-first : (write : Bool) (to : ℕ) (w rows rows₁ : List ℕ) → rows₁ ≡ cond write (sets rows to w) rows → Chose write to (w ∷ []) rows rows₁ 1
+unfolding concat
+chose-first write to w rows rows₁ e = record { counted = refl; rows-are = e ∙ rw (append-nil w) }
+
+pub chose-none : (write : Bool) (to : ℕ) (rows : List ℕ) → Chose write to [] rows rows 0
+unfolding concat
+chose-none write to rows = record { counted = refl; rows-are = cond-by (λ (x : List ℕ). rows ≡ x) write _ _ (λ _. refl) (λ _. refl) }
+
+module _ (q : Query) (document element name : List ℕ) (base : ℕ) (s : List ℕ) (table : List ℕ) (p : Pool) (k : Keepable base s (event (soundOf p table) (p .names) s) p table) where
+  abbrev S : ℕ → Bool
+  S = soundOf p table
+
+  abbrev whole-event : Items
+  whole-event = event S (p .names) s
+
+  abbrev all-chosen : List Words
+  all-chosen = chosen q document element name (rowsOf base table whole-event)
+
+  module _ (i : Item) (n : ℕ) (e : first S (p .names) s 0 ≡ got i n) where
+    abbrev row : Words
+    row = itemWords 0 base table i
+
+    abbrev own : List Words
+    own = cond (takesAll q) (row ∷ []) []
+
+    abbrev others : List Words
+    others = taken (takesAll q) (takesOne q) document name (rowsOf base table (rest S s (after (p .names) i) n))
+
+    pub first-placed : ItemPlaced base table i
+    first-placed =
+        byTest (eqb (i .kind) Token.startTag)
+        (λ b. row-placed base s table i _ p (rw (event-tag S s (p .names) i n e (eqb-true _ _ b)) at k) (first-fits S s (p .names) i n e .1))
+        (λ b. row-placed base s table i _ p (rw (event-single S s (p .names) i n e (eqb-false _ _ b)) at k) (first-fits S s (p .names) i n e .1))
+
+    pub kind-is : i .kind ≡ kindOf whole-event
+    unfolding kindOf
+    kind-is =
+        byTest (eqb (i .kind) Token.startTag) (λ b. rw (event-tag S s (p .names) i n e (eqb-true _ _ b))) (λ b. rw (event-single S s (p .names) i n e (eqb-false _ _ b)))
+
+    pub chosen-none : isElement document element row ≡ false → all-chosen ≡ []
+    unfolding rowsOf chosen
+    chosen-none h =
+        byTest (eqb (i .kind) Token.startTag) (λ b. rw (event-tag S s (p .names) i n e (eqb-true _ _ b), h)) (λ b. rw (event-single S s (p .names) i n e (eqb-false _ _ b), h))
+
+    module _ (h : isElement document element row ≡ true) where
+      tag : i .kind ≡ Token.startTag
+      unfolding isElement itemWords
+      tag = eqb-true _ _ (both-left (eqb (i .kind) Token.startTag) _ h)
+
+      pub chosen-is : all-chosen ≡ own ++ others
+      unfolding rowsOf chosen
+      chosen-is = rw (event-tag S s (p .names) i n e tag, h)
+
+      pub rest-keepable : (q′ : Pool) → PoolAfter (after (p .names) i) p q′ → Keepable base s (rest (soundOf q′ table) s (q′ .names) n) q′ table
+      rest-keepable q′ a =
+          let z : soundOf q′ table ≡ S = sound-next S table _ p q′ a refl in
+          let g : Keepable base s (rest S s (after (p .names) i) n) q′ table = keepable-next base s table i _ p (rw (event-tag S s (p .names) i n e tag) at k) q′ a in
+          keepable-as base s table q′ _ _ (ap (λ (x : ℕ → Bool). rest x s (after (p .names) i) n) (sym z) ∙ ap (λ (x : ℕ). rest (soundOf q′ table) s x n) (sym (a .names-are))) g
+
+      pub others-are : (q′ : Pool) → PoolAfter (after (p .names) i) p q′ → (all one : Bool) → all ≡ takesAll q → one ≡ takesOne q
+          → taken all one document name (rowsOf base table (rest (soundOf q′ table) s (q′ .names) n)) ≡ others
+      others-are q′ a all one f g =
+          let z : soundOf q′ table ≡ S = sound-next S table _ p q′ a refl in
+          rw (z, a .names-are, f, g)
+
+      pub own-eight : length (concat own) ≡ 8 * length own
+      unfolding concat
+      own-eight = cond-by (λ (x : List Words). length (concat x) ≡ 8 * length x) (takesAll q) _ _ (λ _. ap length (append-nil row) ∙ item-length 0 base table i) (λ _. refl)
+
+      -- where rows are written, there is room for the tag's row and for the others
+      module _ (write : Bool) (to : ℕ) (rows : List ℕ) (r : Room write to (length all-chosen) rows) where
+        together : length all-chosen ≡ length own + length others
+        together = ap length chosen-is ∙ length-append own others
+
+        pub first-room : takesAll q ≡ true → write ≡ true → to + 8 ≤ length rows
+        first-room t u = let l : length own ≡ 1 = rw t in omega (arith, r .fits u, together)
+
+        own-few : length own ≤ 1
+        own-few = cond-by (λ (x : List Words). length x ≤ 1) (takesAll q) _ _ (λ _. omega arith) (λ _. omega arith)
+
+        pub first-few : (first : ℕ) (rows₁ : List ℕ) → Chose write to own rows rows₁ first → first ≤ 1
+        first-few first rows₁ c = omega (arith, c .counted, own-few)
+
+        pub rest-fits : (first : ℕ) (rows₁ : List ℕ) → Chose write to own rows rows₁ first → (write ≡ false → to ≡ 0) → to + 8 * first < 18_446_744_073_709_551_616
+        rest-fits first rows₁ c zero-to =
+            byTest write (λ t. omega (arith, r .fits t, r .sized, together, c .counted)) (λ t. omega (arith, zero-to t, c .counted, own-few))
+
+        pub rest-room : (first : ℕ) (rows₁ : List ℕ) → Chose write to own rows rows₁ first → (write ≡ false → to ≡ 0) → (n : ℕ) → n ≡ length others
+            → Room write (to + 8 * first) n rows₁
+        rest-room first rows₁ c zero-to n m =
+            let l : length rows₁ ≡ length rows = put-long write rows to (concat own) rows₁ (c .rows-are) in
+            record {
+              fits = λ t. omega (arith, r .fits t, together, c .counted);
+              sized = omega (arith, r .sized);
+              counts = λ t. omega (arith, zero-to t, c .counted, own-few);
+            }

@@ -1,0 +1,478 @@
+-- One event of a query, from what is taken of it to the turn that the definition makes.
+use mathlib.Core.Bool.{Bool, true, false, _||_, cond}
+use mathlib.Core.List.{List, [], _∷_, _++_, append-nil, append-assoc}
+use mathlib.Core.Option.{Option, none, some}
+use mathlib.Core.Path.{_≡_, refl, sym, ap, _∙_, fun-ext}
+use Prim.Native.Nat.{ℕ, suc, _+_, _*_, _-_, _/_, _%_, _≤_, _<_}
+use native.Mathlib.Omega.{arith}
+use borrow.Author.Tests.{lt-ltb, le-ltb, ltb-true, ltb-false, eq-eqb, ne-eqb}
+use lib.Dec.{ltb, eqb}
+use lib.ListN.{length, take, drop, getD, length-append, length-drop, List·getD-append, take-append-drop}
+use lib.Seq.{sets, take-all, sets-eq, length-sets, length-take-le, take-at, drop-at, getD-take}
+use Rattle.wire.specs.Refusal.{rowsFull, poolFull, badSize, badState}
+use Rattle.grammar.specs.Grammar.{Span, Ref, new, known, Value, Item, Items, item, whole, lacks, stops, most, counted, countedName, countedValue, after, event}
+use Rattle.grammar.specs.Added.{after-adds}
+use Rattle.grammar.specs.Scan.{sound, addsItem, adds, pairs, itemWords, words, complete, incomplete, bad, outcome, Measure, measure}
+use Rattle.grammar.specs.Scan as Scan
+use Rattle.grammar.specs.Choice.{byTest, cond-by, neither}
+use Rattle.grammar.specs.Said.{item-length}
+use Rattle.grammar.specs.Laws.{Agree, agree-event}
+use Rattle.grammar.specs.Stores.{sound-sets, pairs-length}
+use Rattle.slice_spec.specs.Slice.{Place, sizesBad, placeBad, itemsAt, tableAfter, placeAfter}
+use Rattle.slice_spec.specs.Queries as Defined
+use Rattle.slice_spec.specs.Queries.{Words, split, named, isElement, allNamed, firstNamed, picks, picked, concat, Progress, past, kindOf, tableWith, writes, done, refused}
+use Rattle.slice_spec.specs.Stored.{words-front}
+use Rattle.slice_spec.specs.Turns.{Turn, passed, halted, passing, turnBy, turn, turnOrRefuse}
+use Rattle.scanner.specs.declared.Pool.{Pool}
+use Rattle.scanner.specs.Tally.{limit}
+use Rattle.scanner.specs.Keep.{Keepable}
+use Rattle.scanner.proofs.Walk.{soundOf}
+use Rattle.scanner.proofs.Passes.{complete-ended}
+use Rattle.scanner.specs.declared.select.Query.{Query}
+use Rattle.scanner.specs.declared.select.Query.the-variants as Query
+use Rattle.scanner.specs.Select.{queryOf, takesAll, takesOne, rowsOf, taken, chosen, asked, faultOf, Room, Chose, Whole, Handed, Ready, progress}
+
+-- ---- what the definition picks, and what the code takes
+
+module _ (document name : List ℕ) where
+  taken-all : (ws : List Words) → taken true false document name ws ≡ ws
+  unfolding taken
+  taken-all [] = refl
+  taken-all (w ∷ ws) = ap (λ (x : List Words). w ∷ x) (taken-all ws)
+
+  taken-first : (ws : List Words) → taken false true document name ws ≡ firstNamed document name ws
+  unfolding taken firstNamed
+  taken-first [] = refl
+  taken-first (w ∷ ws) = ap (λ (x : List Words). cond (named document name w) (w ∷ []) x) (taken-first ws)
+
+  taken-named : (ws : List Words) → taken false false document name ws ≡ allNamed document name ws
+  unfolding taken allNamed
+  taken-named [] = refl
+  taken-named (w ∷ ws) = ap (λ (x : List Words). cond (named document name w) (w ∷ x) x) (taken-named ws)
+
+  chosen-picked : (q : Query) (element : List ℕ) (ws : List Words) → chosen q document element name ws ≡ picked (queryOf q element name) document ws
+  unfolding chosen picked picks
+  chosen-picked q element [] = refl
+  chosen-picked Query.FindAttribute element (w ∷ ws) = rw (taken-first ws)
+  chosen-picked Query.AttributesOf element (w ∷ ws) = rw (taken-all ws)
+  chosen-picked Query.FindAllAttributes element (w ∷ ws) = rw (taken-named ws)
+  chosen-picked Query.AllAttributesOf element (w ∷ ws) = rw (taken-all ws)
+
+  few-step : (b one : Bool) (w : Words) (ws us : List Words) → length us ≤ length ws → length (cond b (w ∷ cond one [] us) us) ≤ suc (length ws)
+  few-step true true w ws us h = omega arith
+  few-step true false w ws us h = omega arith
+  few-step false one w ws us h = omega arith
+
+  taken-few : (all one : Bool) (ws : List Words) → length (taken all one document name ws) ≤ length ws
+  unfolding taken
+  taken-few all one [] = omega arith
+  taken-few all one (w ∷ ws) = few-step (all || named document name w) one w ws (taken all one document name ws) (taken-few all one ws)
+
+  taken-one : (all : Bool) (ws : List Words) → length (taken all true document name ws) ≤ 1
+  unfolding taken
+  taken-one all [] = omega arith
+  taken-one all (w ∷ ws) = cond-by (λ (x : List Words). length x ≤ 1) (all || named document name w) _ _ (λ _. omega arith) (λ _. taken-one all ws)
+
+  chosen-few : (q : Query) (element : List ℕ) (ws : List Words) → length (chosen q document element name ws) ≤ cond (takesOne q) 1 (length ws)
+  unfolding chosen
+  chosen-few Query.FindAttribute element [] = omega arith
+  chosen-few Query.AttributesOf element [] = omega arith
+  chosen-few Query.FindAllAttributes element [] = omega arith
+  chosen-few Query.AllAttributesOf element [] = omega arith
+  chosen-few Query.FindAttribute element (w ∷ ws) = cond-by (λ (x : List Words). length x ≤ 1) (isElement document element w) _ _ (λ _. taken-one false ws) (λ _. omega arith)
+  chosen-few Query.AttributesOf element (w ∷ ws) =
+      cond-by (λ (x : List Words). length x ≤ suc (length ws)) (isElement document element w) _ _ (λ _. let h = taken-few true false ws in omega arith) (λ _. omega arith)
+  chosen-few Query.FindAllAttributes element (w ∷ ws) =
+      cond-by (λ (x : List Words). length x ≤ suc (length ws)) (isElement document element w) _ _ (λ _. let h = taken-few false false ws in omega arith) (λ _. omega arith)
+  chosen-few Query.AllAttributesOf element (w ∷ ws) =
+      cond-by (λ (x : List Words). length x ≤ suc (length ws)) (isElement document element w) _ _ (λ _. let h = taken-few true false ws in omega arith) (λ _. omega arith)
+
+-- ---- rows by their words
+
+module _ (base : ℕ) (table : List ℕ) where
+  rows-split : (is : Items) → split (Scan.count is) (words 0 base table is) ≡ rowsOf base table is
+  unfolding split words Scan.count rowsOf
+  rows-split (item i is) =
+      let w : List ℕ = itemWords 0 base table i in
+      let l : length w ≡ 8 = item-length 0 base table i in
+      rw (take-at w (words 0 base table is) 8 l, drop-at w (words 0 base table is) 8 l, rows-split is)
+  rows-split (whole n e) = refl
+  rows-split (lacks k) = refl
+  rows-split (stops n d) = refl
+
+  rows-count : (is : Items) → length (rowsOf base table is) ≡ Scan.count is
+  unfolding rowsOf Scan.count
+  rows-count (item i is) = ap suc (rows-count is)
+  rows-count (whole n e) = refl
+  rows-count (lacks k) = refl
+  rows-count (stops n d) = refl
+
+-- what a query writes of an event is what the code takes
+pub asked-writes : (q : Query) (element name document : List ℕ) (g : Progress) (is : Items)
+    → asked q element name document (g .place) (g .table) is ≡ writes (queryOf q element name) document g is
+unfolding asked writes
+asked-writes q element name document g is =
+    chosen-picked document name q element _
+    ∙ ap (picked (queryOf q element name) document) (sym (rows-split (g .place .at) (tableWith (g .place) (g .table) (adds (g .place .names) is)) is))
+
+-- ---- half the words, so that nothing is doubled
+
+pub half-test : (n k : ℕ) → ltb (n / 2) k ≡ ltb n (2 * k)
+half-test n k =
+    byTest (ltb (n / 2) k)
+    (λ a. a ∙ sym (lt-ltb n (2 * k) (let h = ltb-true (n / 2) k a in omega arith)))
+    (λ a. a ∙ sym (le-ltb n (2 * k) (let h = ltb-false (n / 2) k a in omega arith)))
+
+-- ---- no more names than can be named join the pool
+
+counted-most : (k : ℕ) (r : Ref) → k ≤ most → counted k r ≤ most
+unfolding counted
+counted-most k (Ref.new t) h = cond-by (λ (x : ℕ). x ≤ most) (ltb k most) _ _ (λ b. let l = ltb-true k most b in omega arith) (λ _. h)
+counted-most k (known i) h = h
+
+name-most : (k : ℕ) (r : Option Ref) → k ≤ most → countedName k r ≤ most
+unfolding countedName
+name-most k none h = h
+name-most k (some r) h = counted-most k r h
+
+value-most : (k : ℕ) (v : Value) → k ≤ most → countedValue k v ≤ most
+unfolding countedValue
+value-most k Value.nothing h = h
+value-most k Value.empty h = h
+value-most k (Value.span t) h = h
+value-most k (Value.interned r) h = counted-most k r h
+value-most k (Value.word w) h = h
+value-most k (Value.pair a b) h = h
+
+adds-most : (k : ℕ) (is : Items) → k ≤ most → k + length (adds k is) ≤ most
+unfolding adds after
+adds-most k (item i is) h =
+    let n = after-adds k i in
+    let m = adds-most (after k i) is (value-most (countedName k (i .name)) (i .value) (name-most k (i .name) h)) in
+    omega (arith, length-append (addsItem k i) (adds (after k i) is))
+adds-most k (whole n e) h = omega arith
+adds-most k (lacks n) h = omega arith
+adds-most k (stops n d) h = omega arith
+
+-- ---- an event that was read whole
+
+-- entries by the beginning of a table
+sound-front : (names stored : ℕ) (u rest table : List ℕ) → u ≡ take (2 * names) table → 2 * names ≤ length table → sound names (u ++ rest) stored ≡ sound names table stored
+unfolding sound
+sound-front names stored u rest table e h =
+    let l : length u ≡ 2 * names = ap length e ∙ length-take-le (2 * names) table h in
+    fun-ext (λ j. byTest (ltb j names)
+    (λ b.
+    let k = ltb-true j names b in
+    let x : getD (u ++ rest) (2 * j) 0 ≡ getD table (2 * j) 0 = List·getD-append u rest 0 (2 * j) (omega arith) ∙ ap (λ (v : List ℕ). getD v (2 * j) 0) e ∙ getD-take (2 * names) table (2 * j) 0 (omega arith) in
+    let y : getD (u ++ rest) (2 * j + 1) 0 ≡ getD table (2 * j + 1) 0 = List·getD-append u rest 0 (2 * j + 1) (omega arith) ∙ ap (λ (v : List ℕ). getD v (2 * j + 1) 0) e ∙ getD-take (2 * names) table (2 * j + 1) 0 (omega arith) in
+    rw (b, x, y))
+    (λ b. rw b))
+
+module _ (document : List ℕ) (p : Place) (table : List ℕ) (count added : ℕ) (w : Whole document p table (itemsAt p document table) count added) where
+  abbrev is : Items
+  is = itemsAt p document table
+
+  abbrev ts : List Span
+  ts = adds (p .names) is
+
+  abbrev bytes : List ℕ
+  bytes = drop (p .at) document
+
+  -- the same, as the code lends it
+  abbrev s : List ℕ
+  s = take (length document - p .at) bytes
+
+  lent : s ≡ bytes
+  lent = take-all (length document - p .at) bytes (omega (arith, length-drop (p .at) document))
+
+  abbrev pool : Pool
+  pool = record { kept = p .names; stored = length document; names = p .names }
+
+  abbrev front : List ℕ
+  front = take (2 * p .names) table
+
+  abbrev fresh : List ℕ
+  fresh = pairs (p .at) ts
+
+  front-length : length front ≡ 2 * p .names
+  front-length = length-take-le (2 * p .names) table (w .names-fit)
+
+  fresh-length : length fresh ≡ 2 * length ts
+  fresh-length = pairs-length (p .at) ts
+
+  -- no table has more pairs, and the pool no more names
+  pub names-few : p .names ≤ 65_535
+  names-few = omega (arith, w .names-fit, w .table-small)
+
+  -- a table in whose first pairs the same entries are at hand
+  module _ (T : List ℕ) (e : sound (p .names) T (length document) ≡ sound (p .names) table (length document)) where
+    pub same-event : event (soundOf pool T) (p .names) s ≡ is
+    unfolding itemsAt
+    same-event = ap (λ (x : ℕ → Bool). event x (p .names) s) e ∙ ap (event (sound (p .names) table (length document)) (p .names)) lent
+
+    pub keepable : 2 * (p .names + length ts) ≤ length T → Keepable (p .at) s (event (soundOf pool T) (p .names) s) pool T
+    keepable h =
+        rw same-event
+        (record { ended = w .ended; in-store = omega (arith, ap length lent, length-drop (p .at) document, w .at-fits, w .document-small); pairs-fit = h; kept-first = omega arith })
+
+  agreed : Agree bytes [] (p .names) 1 is (event (sound (p .names) table (length document)) (p .names) (bytes ++ []))
+  unfolding itemsAt
+  agreed = agree-event bytes [] (sound (p .names) table (length document)) (p .names)
+
+  -- the rows by a table that begins with the pool's pairs and the event's
+  same-rows : (T rest : List ℕ) → T ≡ (front ++ fresh) ++ rest → rowsOf (p .at) T is ≡ rowsOf (p .at) (tableWith p table ts) is
+  unfolding tableWith
+  same-rows T rest e =
+      ap (λ (x : List ℕ). rowsOf (p .at) x is) e
+      ∙ sym (rows-split (p .at) ((front ++ fresh) ++ rest) is)
+      ∙ ap (split (Scan.count is)) (words-front 0 (p .at) (front ++ fresh) rest bytes [] 1 (p .names) is _ agreed (omega (arith, length-append front fresh, front-length, fresh-length)))
+      ∙ rows-split (p .at) (front ++ fresh) is
+
+  -- a table, once the event's names are stored after the pool's pairs
+  module _ (T : List ℕ) (begins : take (2 * p .names) T ≡ front) (sounds : sound (p .names) T (length document) ≡ sound (p .names) table (length document))
+    (room : 2 * (p .names + length ts) ≤ length T) (T′ : List ℕ) (stored : T′ ≡ sets T (2 * p .names) (pairs (p .at) (adds (p .names) (event (soundOf pool T) (p .names) s)))) where
+    stored-is : T′ ≡ sets T (2 * p .names) fresh
+    stored-is = stored ∙ ap (λ (x : Items). sets T (2 * p .names) (pairs (p .at) (adds (p .names) x))) (same-event T sounds)
+
+    sounds-after : sound (p .names) T′ (length document) ≡ sound (p .names) table (length document)
+    sounds-after = ap (λ (x : List ℕ). sound (p .names) x (length document)) stored-is ∙ sound-sets (p .names) (length document) T (2 * p .names) fresh (omega arith) ∙ sounds
+
+    long-after : length T′ ≡ length T
+    long-after = ap length stored-is ∙ length-sets T (2 * p .names) fresh
+
+    pub stored-keepable : Keepable (p .at) s (event (soundOf pool T′) (p .names) s) pool T′
+    stored-keepable = keepable T′ sounds-after (omega (arith, long-after))
+
+    pub stored-rows : rowsOf (p .at) T′ (event (soundOf pool T′) (p .names) s) ≡ rowsOf (p .at) (tableWith p table ts) is
+    stored-rows =
+        let rest : List ℕ = drop (2 * p .names + length fresh) T in
+        let e : T′ ≡ (front ++ fresh) ++ rest = stored-is ∙ sets-eq fresh T (2 * p .names) (omega (arith, fresh-length)) ∙ ap (λ (x : List ℕ). (x ++ fresh) ++ rest) begins in
+        ap (λ (x : Items). rowsOf (p .at) T′ x) (same-event T′ sounds-after) ∙ same-rows T′ rest e
+
+    pub stored-kind : kindOf (event (soundOf pool T′) (p .names) s) ≡ kindOf is
+    stored-kind = ap kindOf (same-event T′ sounds-after)
+
+    pub stored-table : T′ ≡ sets T (2 * p .names) (pairs (p .at) (adds (p .names) is))
+    stored-table = stored-is
+
+  -- a table that is left as it is, where the event adds no names
+  module _ (none-added : added ≡ 0) where
+    no-names : ts ≡ []
+    no-names = none-of ts (omega (arith, w .as-many))
+      where
+        none-of : (x : List Span) → length x ≡ 0 → x ≡ []
+        none-of [] h = refl
+        none-of (t ∷ x) h = absurd (omega arith)
+
+    pub kept-keepable : Keepable (p .at) s (event (soundOf pool table) (p .names) s) pool table
+    kept-keepable = keepable table refl (omega (arith, w .names-fit, w .as-many))
+
+    pub kept-rows : rowsOf (p .at) table (event (soundOf pool table) (p .names) s) ≡ rowsOf (p .at) (tableWith p table ts) is
+    unfolding pairs
+    kept-rows =
+        let e : table ≡ (front ++ fresh) ++ drop (2 * p .names) table = rw (no-names, append-nil front) (sym (take-append-drop (2 * p .names) table)) in
+        ap (λ (x : Items). rowsOf (p .at) table x) (same-event table refl) ∙ same-rows table _ e
+
+  -- a copy of the pool's pairs
+  module _ (own own₁ : List ℕ) (long : 131_072 ≤ length own) (copy : own₁ ≡ sets own 0 front) where
+    copy-is : own₁ ≡ front ++ drop (2 * p .names) own
+    copy-is =
+        let n : 0 + length front ≡ 2 * p .names = omega (arith, front-length) in
+        copy ∙ sets-eq front own 0 (omega (arith, front-length, w .names-fit, w .table-small)) ∙ ap (λ (k : ℕ). front ++ drop k own) n
+
+    pub copy-begins : take (2 * p .names) own₁ ≡ front
+    copy-begins = ap (take (2 * p .names)) copy-is ∙ take-at front (drop (2 * p .names) own) (2 * p .names) front-length
+
+    pub copy-sounds : sound (p .names) own₁ (length document) ≡ sound (p .names) table (length document)
+    copy-sounds = ap (λ (x : List ℕ). sound (p .names) x (length document)) copy-is ∙ sound-front (p .names) (length document) front (drop (2 * p .names) own) table refl (w .names-fit)
+
+    pub copy-room : 2 * (p .names + length ts) ≤ length own₁
+    unfolding most
+    copy-room =
+        let l : length own₁ ≡ length own = ap length copy ∙ length-sets own 0 front in
+        omega (arith, adds-most (p .names) is names-few)
+
+  pub more-room : 2 * (p .names + added) ≤ length table → 2 * (p .names + length ts) ≤ length table
+  more-room h = omega (arith, w .as-many)
+
+  -- ---- what is asked of it
+
+  module _ (q : Query) (element name : List ℕ) where
+    abbrev ws : List Words
+    ws = asked q element name document p table is
+
+    pub asked-by : (T : List ℕ) (x : Items) → rowsOf (p .at) T x ≡ rowsOf (p .at) (tableWith p table ts) is → chosen q document element name (rowsOf (p .at) T x) ≡ ws
+    unfolding asked
+    asked-by T x e = ap (chosen q document element name) e
+
+    pub asked-few : length ws ≤ cond (takesOne q) 1 count
+    unfolding asked
+    asked-few =
+        let e : length (rowsOf (p .at) (tableWith p table ts) is) ≡ count = rows-count (p .at) (tableWith p table ts) is ∙ sym (w .rows-are) in
+        rw (← e) (chosen-few document name q element (rowsOf (p .at) (tableWith p table ts) is))
+
+    -- 10, then 11
+    module _ (left : ℕ) where
+      pub no-fault : cond (takesOne q) 1 count ≤ left → added ≤ length table / 2 - p .names → 0 ≡ faultOf left (length ws) (length table / 2 - p .names) added
+      unfolding faultOf
+      no-fault a b = rw (le-ltb left (length ws) (omega (arith, asked-few)), le-ltb (length table / 2 - p .names) added b)
+
+    module _ (rows : List ℕ) (events written len : ℕ) where
+      abbrev g : Progress
+      g = progress (p .at) (p .names) table rows events written
+
+      abbrev There : Turn
+      There = passing g (kindOf is) len ts ws
+
+      few-rows : length rows / 8 < written + length ws → halted (refused rowsFull 0) g ≡ There
+      unfolding passing
+      few-rows h = rw (lt-ltb (length rows / 8) (written + length ws) h)
+
+      pub no-rows : (number detail : ℕ) → length rows / 8 < written → number ≡ rowsFull → detail ≡ 0 → halted (refused number detail) g ≡ There
+      no-rows number detail h e d = rw (e, d) (few-rows (omega arith))
+
+      module _ (enough : written ≤ length rows / 8) where
+        abbrev left : ℕ
+        left = length rows / 8 - written
+
+        abbrev free : ℕ
+        free = length table / 2 - p .names
+
+        short-table : length ws ≤ left → free < added → halted (refused poolFull 0) g ≡ There
+        unfolding passing
+        short-table a b =
+            rw (le-ltb (length rows / 8) (written + length ws) (omega arith), lt-ltb (length table) (2 * (p .names + length ts)) (omega (arith, w .as-many, w .names-fit)))
+
+        pub faulty : (number detail : ℕ) → number ≡ faultOf left (length ws) free added → (number ≡ 0 → ⊥) → detail ≡ 0 → halted (refused number detail) g ≡ There
+        unfolding faultOf
+        faulty number detail e ne d =
+            byTest (ltb left (length ws))
+            (λ a. let n : number ≡ rowsFull = rw a at e in rw (n, d) (few-rows (omega (arith, ltb-true left (length ws) a))))
+            (λ a. byTest (ltb free added)
+            (λ b. let n : number ≡ poolFull = rw (a, b) at e in rw (n, d) (short-table (ltb-false _ _ a) (ltb-true _ _ b)))
+            (λ b. let n : number ≡ 0 = rw (a, b) at e in absurd (ne n)))
+
+        pub faultless : (number : ℕ) → number ≡ faultOf left (length ws) free added → number ≡ 0 → (length ws ≤ left) × (added ≤ free)
+        unfolding faultOf
+        faultless number e z =
+            byTest (ltb left (length ws)) (λ a. let n : number ≡ rowsFull = rw a at e in absurd (ten (sym n ∙ z)))
+            (λ a. byTest (ltb free added) (λ b. let n : number ≡ poolFull = rw (a, b) at e in absurd (eleven (sym n ∙ z))) (λ b. (ltb-false _ _ a, ltb-false _ _ b)))
+          where
+            ten : rowsFull ≡ 0 → ⊥
+            ten h = omega arith
+
+            eleven : poolFull ≡ 0 → ⊥
+            eleven h = omega arith
+
+        pub pairs-room : added ≤ free → 2 * (p .names + added) ≤ length table
+        pairs-room h = omega (arith, w .names-fit)
+
+        pub rows-room : length ws ≤ left → length rows < 18_446_744_073_709_551_616 → Room true (8 * written) (length ws) rows
+        rows-room h z = record { fits = λ _. omega arith; sized = z; counts = λ t. absurd (let k : _≡_ {A = ℕ} 0 1 = cc t in omega arith) }
+
+        pub handed : (table′ rows′ : List ℕ) (kind n : ℕ) → length ws ≤ left → added ≤ free → Handed document p table table′ rows rows′ is written ws kind n
+            → passed kind n (record { place = record { at = p .at + len; names = p .names + added }; table = table′; rows = rows′; events = events + 1; written = written + n }) ≡ There
+        unfolding passing past placeAfter tableAfter
+        handed table′ rows′ kind n a b x =
+            rw (
+              le-ltb (length rows / 8) (written + length ws) (omega arith),
+              le-ltb (length table) (2 * (p .names + length ts)) (omega (arith, w .as-many, w .names-fit)),
+              x .kind-is,
+              x .table-is,
+              x .chose .rows-are,
+              x .chose .counted,
+              w .as-many,
+            )
+
+-- ---- the event at a place
+
+pub lent-small : (document : List ℕ) (p : Place) (table : List ℕ) → Ready document p table → length (take (length document - p .at) (drop (p .at) document)) ≤ limit
+lent-small document p table r =
+    let l = length-drop (p .at) document in
+    omega (arith, ap length (take-all (length document - p .at) (drop (p .at) document) (omega arith)), r .at-fits, r .document-small)
+
+module _ (q : Query) (element name document : List ℕ) (p : Place) (table rows : List ℕ) (events written : ℕ) where
+  abbrev at-place : Items
+  at-place = itemsAt p document table
+
+  abbrev so-far : Progress
+  so-far = progress (p .at) (p .names) table rows events written
+
+  abbrev Turned : Turn
+  Turned = turnBy (queryOf q element name) document so-far at-place (outcome true at-place)
+
+  -- what the first pass measured
+  module _ (r : Ready document p table) (m : Measure)
+    (e : m ≡ measure true (p .names) (event (sound (p .names) table (length document)) (p .names) (take (length document - p .at) (drop (p .at) document)))) where
+    measured : m ≡ measure true (p .names) at-place
+    unfolding itemsAt
+    measured =
+        e ∙ ap (λ (x : List ℕ). measure true (p .names) (event (sound (p .names) table (length document)) (p .names) x))
+        (take-all (length document - p .at) (drop (p .at) document) (omega (arith, length-drop (p .at) document)))
+
+    result-is : m .result ≡ outcome true at-place
+    unfolding measure
+    result-is = ap (λ (x : Measure). x .result) measured
+
+    pub turned-incomplete : m .result ≡ incomplete → halted done so-far ≡ Turned
+    unfolding turnBy
+    turned-incomplete k = rw (sym result-is ∙ k)
+
+    pub turned-bad : (n d : ℕ) → m .result ≡ bad n d → halted (refused n d) so-far ≡ Turned
+    unfolding turnBy
+    turned-bad n d k = rw (sym result-is ∙ k)
+
+    module _ (n : ℕ) (k : m .result ≡ complete n) where
+      pub read-whole : Whole document p table at-place (m .rows) (m .added)
+      unfolding measure
+      read-whole = record {
+        ended = complete-ended true n at-place (sym result-is ∙ k);
+        rows-are = ap (λ (x : Measure). x .rows) measured;
+        as-many = ap (λ (x : Measure). x .added) measured;
+        at-fits = r .at-fits;
+        names-fit = r .names-fit;
+        document-small = r .document-small;
+        table-small = r .table-small;
+      }
+
+      pub turned-complete : (x : Turn) → x ≡ passing so-far (kindOf at-place) n (adds (p .names) at-place) (asked q element name document p table at-place) → x ≡ Turned
+      unfolding turnBy
+      turned-complete x h =
+          h ∙ ap (passing so-far (kindOf at-place) n (adds (p .names) at-place)) (asked-writes q element name document so-far at-place) ∙ rw (sym result-is ∙ k)
+
+  -- ---- what is checked first
+
+  abbrev All : Turn
+  All = turnOrRefuse (queryOf q element name) document so-far
+
+  pub ready : sizesBad document table ≡ false → placeBad p document table ≡ false → Ready document p table
+  unfolding sizesBad placeBad
+  ready a b =
+      let s₁ = neither (ltb 16_777_216 (length document)) _ a in
+      let s₂ = neither (eqb (length table % 2) 1) _ (s₁ .1) in
+      let t₁ = neither (ltb (length document) (p .at)) _ b in
+      record {
+        at-fits = ltb-false _ _ (t₁ .0);
+        names-fit = ltb-false _ _ (t₁ .1);
+        document-small = ltb-false _ _ (s₁ .0);
+        table-small = ltb-false _ _ (s₂ .1);
+      }
+
+  pub refused-sizes : (number detail : ℕ) → sizesBad document table ≡ true → number ≡ badSize → detail ≡ 0 → halted (refused number detail) so-far ≡ All
+  unfolding turnOrRefuse
+  refused-sizes number detail a e d = rw (a, e, d)
+
+  module _ (a : sizesBad document table ≡ false) where
+    pub refused-place : (number detail : ℕ) → placeBad p document table ≡ true → number ≡ badState → detail ≡ 0 → halted (refused number detail) so-far ≡ All
+    unfolding turnOrRefuse
+    refused-place number detail b e d = rw (a, b, e, d)
+
+    module _ (b : placeBad p document table ≡ false) where
+      pub at-end : p .at ≡ length document → halted done so-far ≡ All
+      unfolding turnOrRefuse turn
+      at-end e = rw (a, b, eq-eqb (p .at) (length document) e)
+
+      pub goes : (p .at ≡ length document → ⊥) → (x : Turn) → x ≡ Turned → x ≡ All
+      unfolding turnOrRefuse turn
+      goes ne x e = e ∙ rw (a, b, ne-eqb (p .at) (length document) ne)

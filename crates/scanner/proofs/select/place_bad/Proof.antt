@@ -1,0 +1,24 @@
+use lib.ListN.{length}
+use Rattle.slice_spec.specs.Slice.{placeBad}
+use borrow.Author.Tests.{lt-ltb, le-ltb}
+use Rattle.scanner.proofs.Picking.{half-test}
+use Rattle.scanner.proofs.select.place_bad.Statement.{statement}
+use Rattle.scanner.proofs.select.place_bad.Tie as tie
+use Rattle.scanner.proofs.select.place_bad.Reads as reads
+use Rattle.scanner.proofs.select.place_bad.Lts as lts
+
+-- src/select.rt:548:9
+returns : tie.Need-returns
+unfolding placeBad
+returns c =
+    rw (lt-ltb _ _ (c .if1 .taken))
+
+-- src/select.rt:544:1
+returns-2 : tie.Need-returns-2
+unfolding placeBad
+returns-2 c =
+    let a = c .before .args in
+    rw (le-ltb _ _ (c .if1 .left)) (half-test (length (a .table .now)) (a .names))
+
+pub place-bad-spec : {M : Type 1} → statement M
+place-bad-spec = tie.close (tie.spec returns returns-2)

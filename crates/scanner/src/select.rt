@@ -1,0 +1,579 @@
+// One event of a query: it is measured as by a reader, and of its rows only those that the query asks for are written.
+use crate::Item;
+use crate::ItemRead;
+use crate::Outcome;
+use crate::Pool;
+use wire::Command;
+use wire::Refusal;
+ghost use mathlib.Core.Bool.{Bool, true, false, _||_, cond};
+ghost use mathlib.Core.List.{[], _∷_, _++_};
+ghost use mathlib.Core.Path.{_≡_};
+ghost use Prim.Native.Nat.{ℕ, _+_, _*_, _-_, _/_, _≤_, _<_};
+ghost use lib.ListN.{length};
+ghost use lib.Seq.{sets};
+ghost use Rattle.wire.specs.Token.{builtIn};
+ghost use Rattle.grammar.specs.Grammar.{attributesF, event};
+ghost use Rattle.grammar.specs.Scan.{sound, itemWords, adds, outcome};
+ghost use Rattle.slice_spec.specs.Queries.{named, isElement, concat, kindOf};
+ghost use Rattle.scanner.specs.Answers.{itemOf};
+ghost use Rattle.scanner.specs.Keep.{NamePlaced, ItemPlaced, Keepable};
+ghost use Rattle.slice_spec.specs.Slice.{sizesBad, placeBad, itemsAt};
+ghost use Rattle.slice_spec.specs.Turns.{passing, turnBy, turnOrRefuse};
+ghost use Rattle.scanner.specs.Select.{queryOf, Ready, asked, faultOf, Whole, Handed, progress, turnOf, takesAll, takesOne, taken, chosen, rowsOf, Room, Chose};
+
+// What is asked for: attributes of a name, of elements of a name; or such elements with all their attributes.
+const LIMIT: usize = 16_777_216;
+
+const MAX_TABLE: usize = 131_070;
+
+pub enum Query {
+    FindAttribute,
+    AttributesOf,
+    FindAllAttributes,
+    AllAttributesOf,
+}
+
+// An event was consumed, and so many rows of it were written; or the input is at its end.
+pub enum Picked {
+    Event {
+        kind: u32,
+        len: usize,
+        added: usize,
+        rows: usize,
+    },
+    End,
+    Refused(Refusal),
+}
+
+// ---- which rows
+
+// Whether a row has this name, which lies in the document.
+fn is_named(document: &[u8], base: usize, table: &[u32], item: Item, name: &[u8]) -> bool
+    requires { ⌜ ItemPlaced base (now table) (itemOf item) ⌝ }
+    ensures { λ r. ⌜ r ≡ named (now (document .entry)) (now (name .entry)) (itemWords 0 base (now (table .entry)) (itemOf item)) ⌝ }
+{
+    if event::has_name(item.kind) {
+        let reference = item.name;
+        let words = crate::name_words(0, base, table, reference);
+        return event::same_bytes(
+            event::text(document, words.source, words.a, words.b),
+            name,
+        );
+    }
+    name.len() == 0
+}
+
+// Whether it is the start tag of an element of this name.
+fn is_element(document: &[u8], base: usize, table: &[u32], item: Item, element: &[u8]) -> bool
+    requires { ⌜ ItemPlaced base (now table) (itemOf item) ⌝ }
+    ensures { λ r. ⌜ r ≡ isElement (now (document .entry)) (now (element .entry)) (itemWords 0 base (now (table .entry)) (itemOf item)) ⌝ }
+{
+    if item.kind == Command::START_TAG {
+        return is_named(document, base, table, item, element);
+    }
+    false
+}
+
+// Whether a query takes the tag's row and all its attributes.
+fn takes_all(query: Query) -> bool
+    ensures { λ r. ⌜ r ≡ takesAll query ⌝ }
+{
+    match query {
+        Query::FindAttribute => false,
+        Query::AttributesOf => true,
+        Query::FindAllAttributes => false,
+        Query::AllAttributesOf => true,
+    }
+}
+
+// Whether it takes one row at most.
+fn takes_one(query: Query) -> bool
+    ensures { λ r. ⌜ r ≡ takesOne query ⌝ }
+{
+    match query {
+        Query::FindAttribute => true,
+        Query::AttributesOf => false,
+        Query::FindAllAttributes => false,
+        Query::AllAttributesOf => false,
+    }
+}
+
+// ---- rows that are taken are counted, and stored where they are to be written
+
+fn put_taken(
+    write: bool,
+    rows: &mut [u32],
+    to: usize,
+    base: usize,
+    table: &[u32],
+    item: Item,
+)
+    requires { ⌜ (write ≡ true → to + 8 ≤ length (now rows)) ⌝ }
+    requires { ⌜ ItemPlaced base (now table) (itemOf item) ⌝ }
+    ensures { λ _. ⌜ now (rows .exit) ≡ cond write (sets (now (rows .entry)) to (itemWords 0 base (now (table .entry)) (itemOf item))) (now (rows .entry)) ⌝ }
+{
+    if write {
+        crate::put_item(rows, to, 0, base, table, item);
+    }
+}
+
+// Whether an attribute is taken: every one, or those of this name.
+fn is_taken(
+    all: bool,
+    document: &[u8],
+    base: usize,
+    table: &[u32],
+    item: Item,
+    name: &[u8],
+) -> bool
+    requires { ⌜ ItemPlaced base (now table) (itemOf item) ⌝ }
+    ensures { λ r. ⌜ r ≡ (all || named (now (document .entry)) (now (name .entry)) (itemWords 0 base (now (table .entry)) (itemOf item))) ⌝ }
+{
+    if all {
+        return true;
+    }
+    is_named(document, base, table, item, name)
+}
+
+// The attributes from a place on: how many are taken.
+fn take_rest(
+    s: &[u8],
+    from: usize,
+    base: usize,
+    tokens: &[u16; 256],
+    table: &[u32],
+    start: Pool,
+    document: &[u8],
+    name: &[u8],
+    all: bool,
+    one: bool,
+    write: bool,
+    rows: &mut [u32],
+    to: usize,
+) -> usize
+    requires { ⌜ from ≤ length (now s) ⌝ }
+    requires { ⌜ now tokens ≡ builtIn ⌝ }
+    requires { ⌜ Keepable base (now s) (attributesF (sound (start .kept) (now table) (start .stored)) (length (now s)) (start .names) (now s) from) start (now table) ⌝ }
+    requires { ⌜ Room write to (length (taken all one (now document) (now name) (rowsOf base (now table) (attributesF (sound (start .kept) (now table) (start .stored)) (length (now s)) (start .names) (now s) from)))) (now rows) ⌝ }
+    ensures few { λ r. ⌜ r ≤ length (now (s .entry)) ⌝ }
+    ensures rows { λ r. ⌜ Chose write to (taken all one (now (document .entry)) (now (name .entry)) (rowsOf base (now (table .entry)) (attributesF (sound (start .kept) (now (table .entry)) (start .stored)) (length (now (s .entry))) (start .names) (now (s .entry)) from))) (now (rows .entry)) (now (rows .exit)) r ⌝ }
+{
+    let mut at = from;
+    let mut pool = start;
+    let mut count = 0;
+    while at < s.len() {
+        let command = Command::new(tokens, s[at]);
+        let kind = command.0;
+        if kind != Command::ATTRIBUTE {
+            return count;
+        }
+        match crate::attribute_at(s, at, false, tokens, table, pool) {
+            ItemRead::Got { item, next } => {
+                pool = crate::after_item(pool, item);
+                at = next;
+                if is_taken(all, document, base, table, item, name) {
+                    put_taken(write, rows, to + 8 * count, base, table, item);
+                    count += 1;
+                    if one {
+                        return count;
+                    }
+                }
+            }
+            ItemRead::Short(_) => {
+                return count;
+            }
+            ItemRead::Refused(_) => {
+                return count;
+            }
+        }
+    }
+    count
+}
+
+// The tag's own row, where it is taken.
+fn take_first(
+    all: bool,
+    write: bool,
+    rows: &mut [u32],
+    to: usize,
+    base: usize,
+    table: &[u32],
+    item: Item,
+) -> usize
+    requires { ⌜ (all ≡ true → write ≡ true → to + 8 ≤ length (now rows)) ⌝ }
+    requires { ⌜ ItemPlaced base (now table) (itemOf item) ⌝ }
+    ensures { λ r. ⌜ Chose write to (cond all (itemWords 0 base (now (table .entry)) (itemOf item) ∷ []) []) (now (rows .entry)) (now (rows .exit)) r ⌝ }
+{
+    if all {
+        put_taken(write, rows, to, base, table, item);
+        return 1;
+    }
+    0
+}
+
+// An event's kind, and how many of its rows are taken.
+pub struct Took {
+    pub kind: u32,
+    pub rows: usize,
+}
+
+// The rows of the event that are taken. The table has the event's new names, too.
+fn take_event(
+    query: Query,
+    element: &[u8],
+    name: &[u8],
+    document: &[u8],
+    s: &[u8],
+    base: usize,
+    tokens: &[u16; 256],
+    table: &[u32],
+    pool: Pool,
+    write: bool,
+    rows: &mut [u32],
+    to: usize,
+) -> Took
+    requires { ⌜ now tokens ≡ builtIn ⌝ }
+    requires { ⌜ Keepable base (now s) (event (sound (pool .kept) (now table) (pool .stored)) (pool .names) (now s)) pool (now table) ⌝ }
+    requires { ⌜ Room write to (length (chosen query (now document) (now element) (now name) (rowsOf base (now table) (event (sound (pool .kept) (now table) (pool .stored)) (pool .names) (now s))))) (now rows) ⌝ }
+    requires { ⌜ (write ≡ false → to ≡ 0) ⌝ }
+    ensures rows { λ r. ⌜ Chose write to (chosen query (now (document .entry)) (now (element .entry)) (now (name .entry)) (rowsOf base (now (table .entry)) (event (sound (pool .kept) (now (table .entry)) (pool .stored)) (pool .names) (now (s .entry))))) (now (rows .entry)) (now (rows .exit)) (r .rows) ⌝ }
+    ensures kind { λ r. ⌜ r .kind ≡ kindOf (event (sound (pool .kept) (now (table .entry)) (pool .stored)) (pool .names) (now (s .entry))) ⌝ }
+{
+    match crate::first_at(s, false, tokens, table, pool) {
+        ItemRead::Got { item, next } => {
+            let kind = item.kind;
+            if is_element(document, base, table, item, element) {
+                let all = takes_all(query);
+                let first = take_first(all, write, rows, to, base, table, item);
+                let rest = take_rest(
+                    s,
+                    next,
+                    base,
+                    tokens,
+                    table,
+                    crate::after_item(pool, item),
+                    document,
+                    name,
+                    all,
+                    takes_one(query),
+                    write,
+                    rows,
+                    to + 8 * first,
+                );
+                return Took {
+                    kind,
+                    rows: first + rest,
+                };
+            }
+            Took { kind, rows: 0 }
+        }
+        ItemRead::Short(_) => Took { kind: 0, rows: 0 },
+        ItemRead::Refused(_) => Took { kind: 0, rows: 0 },
+    }
+}
+
+// ---- an event that was read whole
+
+// How many rows are taken, by a copy of the pool's pairs that has the event's new names, too.
+fn count_by(
+    own: &mut [u32],
+    query: Query,
+    element: &[u8],
+    name: &[u8],
+    document: &[u8],
+    at: usize,
+    names: usize,
+    tokens: &[u16; 256],
+    table: &[u32],
+    count: usize,
+    added: usize,
+) -> usize
+    requires { ⌜ 131_072 ≤ length (now own) ⌝ }
+    requires { ⌜ now tokens ≡ builtIn ⌝ }
+    requires { ⌜ Whole (now document) (record { at = at; names = names }) (now table) (itemsAt (record { at = at; names = names }) (now document) (now table)) count added ⌝ }
+    ensures { λ r. ⌜ r ≡ length (asked query (now (element .entry)) (now (name .entry)) (now (document .entry)) (record { at = at; names = names }) (now (table .entry)) (itemsAt (record { at = at; names = names }) (now (document .entry)) (now (table .entry)))) ⌝ }
+{
+    let s = &document[at..];
+    let pool = Pool {
+        kept: names,
+        stored: document.len(),
+        names,
+    };
+    crate::put_words(own, table, 2 * names);
+    crate::keep(s, at, tokens, own, pool);
+    let mut none = [0u32; 1];
+    let took = take_event(
+        query, element, name, document, s, at, tokens, own, pool, false, &mut none, 0,
+    );
+    took.rows
+}
+
+// How many rows are taken. The table may have no room for the event's new names, and is left as it is.
+fn count_taken(
+    query: Query,
+    element: &[u8],
+    name: &[u8],
+    document: &[u8],
+    at: usize,
+    names: usize,
+    tokens: &[u16; 256],
+    table: &[u32],
+    count: usize,
+    added: usize,
+) -> usize
+    requires { ⌜ now tokens ≡ builtIn ⌝ }
+    requires { ⌜ Whole (now document) (record { at = at; names = names }) (now table) (itemsAt (record { at = at; names = names }) (now document) (now table)) count added ⌝ }
+    ensures { λ r. ⌜ r ≡ length (asked query (now (element .entry)) (now (name .entry)) (now (document .entry)) (record { at = at; names = names }) (now (table .entry)) (itemsAt (record { at = at; names = names }) (now (document .entry)) (now (table .entry)))) ⌝ }
+{
+    if added == 0 {
+        let pool = Pool {
+            kept: names,
+            stored: document.len(),
+            names,
+        };
+        let mut none = [0u32; 1];
+        let took = take_event(
+            query,
+            element,
+            name,
+            document,
+            &document[at..],
+            at,
+            tokens,
+            table,
+            pool,
+            false,
+            &mut none,
+            0,
+        );
+        return took.rows;
+    }
+    let mut own = [0u32; 131_072];
+    count_by(
+        &mut own, query, element, name, document, at, names, tokens, table, count, added,
+    )
+}
+
+// No more rows than these are taken of an event of so many.
+fn most_taken(query: Query, count: usize) -> usize
+    ensures { λ r. ⌜ r ≡ cond (takesOne query) 1 count ⌝ }
+{
+    if takes_one(query) {
+        return 1;
+    }
+    count
+}
+
+// The number of the refusal, where so many rows are left; 0: none. What is taken is counted only where it matters.
+fn fault(
+    query: Query,
+    element: &[u8],
+    name: &[u8],
+    document: &[u8],
+    at: usize,
+    names: usize,
+    tokens: &[u16; 256],
+    table: &[u32],
+    count: usize,
+    added: usize,
+    left: usize,
+) -> u32
+    requires { ⌜ now tokens ≡ builtIn ⌝ }
+    requires { ⌜ Whole (now document) (record { at = at; names = names }) (now table) (itemsAt (record { at = at; names = names }) (now document) (now table)) count added ⌝ }
+    ensures { λ r. ⌜ r ≡ faultOf left (length (asked query (now (element .entry)) (now (name .entry)) (now (document .entry)) (record { at = at; names = names }) (now (table .entry)) (itemsAt (record { at = at; names = names }) (now (document .entry)) (now (table .entry))))) (length (now (table .entry)) / 2 - names) added ⌝ }
+{
+    let pairs = table.len() / 2 - names;
+    if most_taken(query, count) <= left {
+        if added <= pairs {
+            return 0;
+        }
+    }
+    let n = count_taken(
+        query, element, name, document, at, names, tokens, table, count, added,
+    );
+    if left < n {
+        return Refusal::ROWS_FULL;
+    }
+    if pairs < added {
+        return Refusal::POOL_FULL;
+    }
+    0
+}
+
+// The event's new names are stored, then the rows that are taken.
+fn hand_out(
+    query: Query,
+    element: &[u8],
+    name: &[u8],
+    document: &[u8],
+    at: usize,
+    names: usize,
+    tokens: &[u16; 256],
+    table: &mut [u32],
+    rows: &mut [u32],
+    written: usize,
+    count: usize,
+    added: usize,
+) -> Took
+    requires { ⌜ now tokens ≡ builtIn ⌝ }
+    requires { ⌜ Whole (now document) (record { at = at; names = names }) (now table) (itemsAt (record { at = at; names = names }) (now document) (now table)) count added ⌝ }
+    requires { ⌜ 2 * (names + added) ≤ length (now table) ⌝ }
+    requires { ⌜ Room true (8 * written) (length (asked query (now element) (now name) (now document) (record { at = at; names = names }) (now table) (itemsAt (record { at = at; names = names }) (now document) (now table)))) (now rows) ⌝ }
+    ensures { λ r. ⌜ Handed (now (document .entry)) (record { at = at; names = names }) (now (table .entry)) (now (table .exit)) (now (rows .entry)) (now (rows .exit)) (itemsAt (record { at = at; names = names }) (now (document .entry)) (now (table .entry))) written (asked query (now (element .entry)) (now (name .entry)) (now (document .entry)) (record { at = at; names = names }) (now (table .entry)) (itemsAt (record { at = at; names = names }) (now (document .entry)) (now (table .entry)))) (r .kind) (r .rows) ⌝ }
+{
+    let s = &document[at..];
+    let pool = Pool {
+        kept: names,
+        stored: document.len(),
+        names,
+    };
+    crate::keep(s, at, tokens, table, pool);
+    take_event(
+        query,
+        element,
+        name,
+        document,
+        s,
+        at,
+        tokens,
+        table,
+        pool,
+        true,
+        rows,
+        8 * written,
+    )
+}
+
+// 10, then 11, else the event is handed out.
+fn pick_read(
+    query: Query,
+    element: &[u8],
+    name: &[u8],
+    document: &[u8],
+    at: usize,
+    names: usize,
+    tokens: &[u16; 256],
+    table: &mut [u32],
+    rows: &mut [u32],
+    written: usize,
+    count: usize,
+    added: usize,
+    len: usize,
+) -> Picked
+    requires { ⌜ now tokens ≡ builtIn ⌝ }
+    requires { ⌜ Whole (now document) (record { at = at; names = names }) (now table) (itemsAt (record { at = at; names = names }) (now document) (now table)) count added ⌝ }
+    ensures { λ r. ⌜ ((events : ℕ) → turnOf (progress at names (now (table .entry)) (now (rows .entry)) events written) (now (table .exit)) (now (rows .exit)) r ≡ passing (progress at names (now (table .entry)) (now (rows .entry)) events written) (kindOf (itemsAt (record { at = at; names = names }) (now (document .entry)) (now (table .entry)))) len (adds names (itemsAt (record { at = at; names = names }) (now (document .entry)) (now (table .entry)))) (asked query (now (element .entry)) (now (name .entry)) (now (document .entry)) (record { at = at; names = names }) (now (table .entry)) (itemsAt (record { at = at; names = names }) (now (document .entry)) (now (table .entry))))) ⌝ }
+{
+    let room = rows.len() / 8;
+    if room < written {
+        return Picked::Refused(Refusal::new(Refusal::ROWS_FULL));
+    }
+    let number = fault(
+        query,
+        element,
+        name,
+        document,
+        at,
+        names,
+        tokens,
+        table,
+        count,
+        added,
+        room - written,
+    );
+    if number != 0 {
+        return Picked::Refused(Refusal::new(number));
+    }
+    let took = hand_out(
+        query, element, name, document, at, names, tokens, table, rows, written, count, added,
+    );
+    Picked::Event {
+        kind: took.kind,
+        len,
+        added,
+        rows: took.rows,
+    }
+}
+
+// The event at a place before the document's end.
+fn pick_at(
+    query: Query,
+    element: &[u8],
+    name: &[u8],
+    document: &[u8],
+    at: usize,
+    names: usize,
+    table: &mut [u32],
+    rows: &mut [u32],
+    written: usize,
+) -> Picked
+    requires { ⌜ Ready (now document) (record { at = at; names = names }) (now table) ⌝ }
+    ensures { λ r. ⌜ ((events : ℕ) → turnOf (progress at names (now (table .entry)) (now (rows .entry)) events written) (now (table .exit)) (now (rows .exit)) r ≡ turnBy (queryOf query (now (element .entry)) (now (name .entry))) (now (document .entry)) (progress at names (now (table .entry)) (now (rows .entry)) events written) (itemsAt (record { at = at; names = names }) (now (document .entry)) (now (table .entry))) (outcome true (itemsAt (record { at = at; names = names }) (now (document .entry)) (now (table .entry))))) ⌝ }
+{
+    let tokens = wire::tokens::built_in();
+    let pool = Pool {
+        kept: names,
+        stored: document.len(),
+        names,
+    };
+    let m = crate::measure(&document[at..], true, &tokens, table, pool);
+    let outcome = m.outcome;
+    match outcome {
+        Outcome::Incomplete => Picked::End,
+        Outcome::Bad(r) => Picked::Refused(r),
+        Outcome::Complete(len) => pick_read(
+            query, element, name, document, at, names, &tokens, table, rows, written, m.rows, m.added, len,
+        ),
+    }
+}
+
+// Whether a buffer has a length that no slice reader takes.
+pub fn sizes_bad(document: &[u8], table: &[u32]) -> bool
+    ensures { λ r. ⌜ r ≡ sizesBad (now (document .entry)) (now (table .entry)) ⌝ }
+{
+    if LIMIT < document.len() {
+        return true;
+    }
+    if table.len() % 2 == 1 {
+        return true;
+    }
+    MAX_TABLE < table.len()
+}
+
+// Whether the place or the count lies outside its buffer. Twice the names may not fit a usize, half the words do.
+pub fn place_bad(at: usize, names: usize, document: &[u8], table: &[u32]) -> bool
+    ensures { λ r. ⌜ r ≡ placeBad (record { at = at; names = names }) (now (document .entry)) (now (table .entry)) ⌝ }
+{
+    if document.len() < at {
+        return true;
+    }
+    table.len() / 2 < names
+}
+
+// The event at a place, for a query that has written so many rows: the rows of it that are asked for come after them.
+pub fn pick(
+    query: Query,
+    element: &[u8],
+    name: &[u8],
+    document: &[u8],
+    at: usize,
+    names: usize,
+    table: &mut [u32],
+    rows: &mut [u32],
+    written: usize,
+) -> Picked
+    ensures { λ r. ⌜ ((events : ℕ) → turnOf (progress at names (now (table .entry)) (now (rows .entry)) events written) (now (table .exit)) (now (rows .exit)) r ≡ turnOrRefuse (queryOf query (now (element .entry)) (now (name .entry))) (now (document .entry)) (progress at names (now (table .entry)) (now (rows .entry)) events written)) ⌝ }
+{
+    if sizes_bad(document, table) {
+        return Picked::Refused(Refusal::new(Refusal::BAD_SIZE));
+    }
+    if place_bad(at, names, document, table) {
+        return Picked::Refused(Refusal::new(Refusal::BAD_STATE));
+    }
+    if at == document.len() {
+        return Picked::End;
+    }
+    pick_at(
+        query, element, name, document, at, names, table, rows, written,
+    )
+}

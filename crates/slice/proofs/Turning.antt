@@ -1,0 +1,168 @@
+-- A query, turn by turn: what is still to come from where it stands is the whole answer.
+use mathlib.Core.Bool.{true, false}
+use mathlib.Core.List.{List, []}
+use mathlib.Core.Path.{_≡_, refl, sym, ap}
+use Prim.Native.Nat.{ℕ, zero, suc, _+_, _*_, _/_, _≤_}
+use native.Mathlib.Omega.{arith}
+use borrow.Author.Tests.{le-ltb, ltb-false, eq-eqb}
+use lib.Dec.{ltb, eqb}
+use lib.ListN.{length, drop, length-drop}
+use lib.Seq.{length-sets}
+use Rattle.grammar.specs.Grammar.{Span, Items, item, whole, lacks, stops, after}
+use Rattle.grammar.specs.Laws.{Agree, agree-event}
+use Rattle.grammar.specs.Outcomes.{ends-within}
+use Rattle.grammar.specs.Scan.{sound, pairs, Outcome, complete, incomplete, bad, outcome}
+use Rattle.grammar.specs.Choice.{byTest, neither}
+use Rattle.slice_spec.specs.Slice.{Place, sizesBad, placeBad, itemsAt, tableAfter, placeAfter}
+use Rattle.slice_spec.specs.Queries.{Query, Words, Ending, found, done, on, stop, Progress, Left, ends, concat, past, byStep, queryF, query}
+use Rattle.slice_spec.specs.Answers.{begun}
+use Rattle.slice_spec.specs.Turns.{passed, halted, passing, turnBy, turn, turnOrRefuse, singleBy, afterBy, byTurn, query-turn}
+use Rattle.slice.specs.Answers.{leaves}
+use Rattle.slice.specs.declared.queries.Reached.{Reached}
+
+-- a complete event has a byte
+some-byte : (s : List ℕ) (n k : ℕ) (is y : Items) → Agree s [] k 1 is y → outcome true is ≡ complete n → 1 ≤ n
+unfolding outcome
+some-byte s n k (item i is) y a h = some-byte s n (after k i) is (a .1 .0) (a .1 .2) h
+some-byte s n k (whole m true) y a h = let same : m ≡ n = cc h in omega (arith, a .0)
+some-byte s n k (whole m false) y a h = let same : m ≡ n = cc h in omega (arith, a .0)
+some-byte s n k (lacks j) y a h = let z : _≡_ {A = ℕ} 0 1 = cc h in absurd (omega arith)
+some-byte s n k (stops j d) y a h = let z : _≡_ {A = ℕ} 0 1 = cc h in absurd (omega arith)
+
+-- an event was consumed: what held before, and where that leads
+pub record Moved (document : List ℕ) (g g′ : Progress) : Type 0 where
+  pub sizes-good : sizesBad document (g .table) ≡ false
+  pub some-bytes : g .place .at + 1 ≤ g′ .place .at
+  pub within : g′ .place .at ≤ length document
+  pub names-fit : 2 * g′ .place .names ≤ length (g .table)
+  pub rows-fit : g′ .written ≤ length (g .rows) / 8
+  pub one-more : g′ .events ≡ g .events + 1
+  pub same-table : length (g′ .table) ≡ length (g .table)
+  pub same-rows : length (g′ .rows) ≡ length (g .rows)
+
+module _ (q : Query) (document : List ℕ) where
+  past-moved : (g : Progress) (n : ℕ) (ts : List Span) (ws : List Words) → sizesBad document (g .table) ≡ false → 1 ≤ n → g .place .at + n ≤ length document
+      → 2 * (g .place .names + length ts) ≤ length (g .table) → g .written + length ws ≤ length (g .rows) / 8 → Moved document g (past g n ts ws)
+  unfolding past placeAfter tableAfter
+  past-moved g n ts ws good some in-document names rows =
+      record {
+        sizes-good = good;
+        some-bytes = omega arith;
+        within = in-document;
+        names-fit = names;
+        rows-fit = rows;
+        one-more = refl;
+        same-table = length-sets (g .table) (2 * g .place .names) (pairs (g .place .at) ts);
+        same-rows = length-sets (g .rows) (8 * g .written) (concat ws);
+      }
+
+  passing-moved : (g g′ : Progress) (m kind n k : ℕ) (ts : List Span) (ws : List Words) → sizesBad document (g .table) ≡ false → 1 ≤ m → g .place .at + m ≤ length document
+      → passing g k m ts ws ≡ passed kind n g′ → Moved document g g′
+  unfolding passing
+  passing-moved g g′ m kind n k ts ws good some in-document h =
+      byTest (ltb (length (g .rows) / 8) (g .written + length ws))
+      (λ a. let y = rw a at h in let z : _≡_ {A = ℕ} 0 1 = cc y in absurd (omega arith))
+      (λ a. let y = rw a at h in
+      byTest (ltb (length (g .table)) (2 * (g .place .names + length ts)))
+      (λ b. let y = rw b at y in let z : _≡_ {A = ℕ} 0 1 = cc y in absurd (omega arith))
+      (λ b. let y = rw b at y in
+      let same : past g m ts ws ≡ g′ = cc y in
+      rw same at (past-moved g m ts ws good some in-document (ltb-false _ _ b) (ltb-false _ _ a))))
+
+  by-moved : (g g′ : Progress) (kind n : ℕ) (o : Outcome) → outcome true (itemsAt (g .place) document (g .table)) ≡ o → sizesBad document (g .table) ≡ false
+      → g .place .at ≤ length document → turnBy q document g (itemsAt (g .place) document (g .table)) o ≡ passed kind n g′ → Moved document g g′
+  unfolding turnBy itemsAt
+  by-moved g g′ kind n (complete m) o good placed h =
+      let s : List ℕ = drop (g .place .at) document in
+      let is : Items = itemsAt (g .place) document (g .table) in
+      let a = agree-event s [] (sound (g .place .names) (g .table) (length document)) (g .place .names) in
+      let k : m ≤ length s = ends-within s m true (g .place .names) is _ a o in
+      passing-moved g g′ m kind n _ _ _ good (some-byte s m (g .place .names) is _ a o) (omega (arith, length-drop (g .place .at) document)) h
+  by-moved g g′ kind n incomplete o good placed h = let z : _≡_ {A = ℕ} 0 1 = cc h in absurd (omega arith)
+  by-moved g g′ kind n (bad m d) o good placed h = let z : _≡_ {A = ℕ} 0 1 = cc h in absurd (omega arith)
+
+  pub moved : (g g′ : Progress) (kind n : ℕ) → turnOrRefuse q document g ≡ passed kind n g′ → Moved document g g′
+  unfolding turnOrRefuse turn placeBad
+  moved g g′ kind n h =
+      byTest (sizesBad document (g .table))
+      (λ a. let y = rw a at h in let z : _≡_ {A = ℕ} 0 1 = cc y in absurd (omega arith))
+      (λ a. let y = rw a at h in
+      byTest (ltb (length document) (g .place .at))
+      (λ b. let y = rw b at y in let z : _≡_ {A = ℕ} 0 1 = cc y in absurd (omega arith))
+      (λ b. let y = rw b at y in
+      byTest (ltb (length (g .table)) (2 * g .place .names))
+      (λ d. let y = rw d at y in let z : _≡_ {A = ℕ} 0 1 = cc y in absurd (omega arith))
+      (λ d. let y = rw d at y in
+      byTest (eqb (g .place .at) (length document))
+      (λ e. let y = rw e at y in let z : _≡_ {A = ℕ} 0 1 = cc y in absurd (omega arith))
+      (λ e. let y = rw e at y in by-moved g g′ kind n (outcome true (itemsAt (g .place) document (g .table))) refl a (ltb-false _ _ b) y))))
+
+-- ---- what is still to come
+
+-- as many turns as there are bytes left are enough, and no more events were consumed than bytes passed
+pub record Going (q : Query) (document : List ℕ) (answer : Left) (g : Progress) : Type 0 where
+  pub fuel : ℕ
+  pub ahead : byTurn q (λ g′. queryF fuel q document g′) (turnOrRefuse q document g) ≡ answer
+  pub enough : length document ≤ g .place .at + fuel + 1
+  pub counted : g .events ≤ g .place .at
+
+module _ (q : Query) (document : List ℕ) where
+  -- 17 and 19 never come where the place lies in the document
+  turn-goes : (g : Progress) → sizesBad document (g .table) ≡ false → placeBad (g .place) document (g .table) ≡ false → turnOrRefuse q document g ≡ turn q document g
+  unfolding turnOrRefuse
+  turn-goes g a b = rw (a, b)
+
+  ended : (g : Progress) → g .place .at ≡ length document → turn q document g ≡ halted done g
+  unfolding turn
+  ended g e = rw (eq-eqb _ _ e)
+
+  going : (f : ℕ) (g : Progress) → sizesBad document (g .table) ≡ false → placeBad (g .place) document (g .table) ≡ false → g .place .at ≤ length document
+      → length document ≤ g .place .at + f → g .events ≤ g .place .at → Going q document (queryF f q document g) g
+  unfolding queryF byTurn
+  going zero g a b placed enough counted =
+      record { fuel = 0; ahead = rw (turn-goes g a b, ended g (omega arith)); enough = omega arith; counted = counted }
+  going (suc f) g a b placed enough counted =
+      record { fuel = f; ahead = rw (turn-goes g a b) (sym (query-turn f q document g)); enough = omega arith; counted = counted }
+
+  placed : (p : Place) (table : List ℕ) → placeBad p document table ≡ false → p .at ≤ length document
+  unfolding placeBad
+  placed p table b = ltb-false _ _ (neither (ltb (length document) (p .at)) _ b .0)
+
+  pub begins : (p : Place) (table rows : List ℕ) → Going q document (query q p document table rows) (begun p table rows)
+  unfolding query turnOrRefuse byTurn
+  begins p table rows =
+      byTest (sizesBad document table)
+      (λ a. rw a (record { fuel = length document; ahead = rw a; enough = omega arith; counted = omega arith }))
+      (λ a. rw a
+      (byTest (placeBad p document table)
+      (λ b. rw b (record { fuel = length document; ahead = rw (a, b); enough = omega arith; counted = omega arith }))
+      (λ b. rw b (going (length document) (begun p table rows) a b (placed p table b) (omega arith) (omega arith)))))
+
+  module _ (answer : Left) (g g′ : Progress) (w : Going q document answer g) where
+    pub goes-on : (kind n : ℕ) → turnOrRefuse q document g ≡ passed kind n g′ → afterBy q kind n ≡ on → Going q document answer g′
+    unfolding byTurn byStep sizesBad placeBad
+    goes-on kind n h s =
+        let m : Moved document g g′ = moved q document g g′ kind n h in
+        let e : queryF (w .fuel) q document g′ ≡ answer = rw (h, s) at (w .ahead) in
+        let good : sizesBad document (g′ .table) ≡ false = rw (m .same-table) (m .sizes-good) in
+        let there : placeBad (g′ .place) document (g′ .table) ≡ false =
+        rw (le-ltb _ _ (m .within), le-ltb (length (g′ .table)) (2 * g′ .place .names) (omega (arith, m .names-fit, m .same-table))) in
+        rw e at (going (w .fuel) g′ good there (m .within) (omega (arith, w .enough, m .some-bytes)) (omega (arith, w .counted, m .some-bytes, m .one-more)))
+
+    pub stops-there : (kind n : ℕ) (e : Ending) → turnOrRefuse q document g ≡ passed kind n g′ → afterBy q kind n ≡ stop e → ends g′ e ≡ answer
+    unfolding byTurn byStep
+    stops-there kind n e h s = rw (h, s) at (w .ahead)
+
+    pub halts-there : (e : Ending) → turnOrRefuse q document g ≡ halted e g′ → ends g′ e ≡ answer
+    unfolding byTurn
+    halts-there e h = rw h at (w .ahead)
+
+-- ---- what the code's answers say
+
+pub told : (table rows : List ℕ) (e : Ending) (r r′ : Reached) → r ≡ r′ → leaves table rows r e ≡ leaves table rows r′ e
+told table rows e r r′ h = ap (λ (x : Reached). leaves table rows x e) h
+
+pub single-some : (kind n : ℕ) → (n ≡ 0 → ⊥) → stop found ≡ singleBy kind n
+unfolding singleBy
+single-some kind zero h = absurd (h refl)
+single-some kind (suc n) h = refl
