@@ -1,6 +1,10 @@
 -- Proofs by the outcome of a test.
 use mathlib.Core.Bool.{Bool, true, false, cond, _||_, true≢false}
-use mathlib.Core.Path.{_≡_, refl}
+use mathlib.Core.Path.{_≡_, refl, sym, _∙_}
+use Prim.Native.Nat.{ℕ, _*_, _/_}
+use native.Mathlib.Omega.{arith}
+use borrow.Author.Tests.{lt-ltb, le-ltb, ltb-true, ltb-false}
+use lib.Dec.{ltb}
 
 -- by a test, with its equation
 abbrev pub byTest {ℓ} : {X : Type ℓ} (b : Bool) → (b ≡ true → X) → (b ≡ false → X) → X
@@ -16,3 +20,10 @@ cond-by P false x y f g = g refl
 pub neither : (a b : Bool) → (a || b) ≡ false → (a ≡ false) × (b ≡ false)
 neither true b h = absurd (true≢false h)
 neither false b h = (refl, h)
+
+-- half of a number against another: so nothing is doubled
+pub half-test : (n k : ℕ) → ltb (n / 2) k ≡ ltb n (2 * k)
+half-test n k =
+    byTest (ltb (n / 2) k)
+    (λ a. a ∙ sym (lt-ltb n (2 * k) (let h = ltb-true (n / 2) k a in omega arith)))
+    (λ a. a ∙ sym (le-ltb n (2 * k) (let h = ltb-false (n / 2) k a in omega arith)))

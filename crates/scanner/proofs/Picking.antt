@@ -3,10 +3,10 @@ use mathlib.Core.Bool.{Bool, true, false, _||_, cond}
 use mathlib.Core.List.{List, [], _∷_, _++_, append-nil, append-assoc}
 use mathlib.Core.Option.{Option, none, some}
 use mathlib.Core.Path.{_≡_, refl, sym, ap, _∙_, fun-ext}
-use Prim.Native.Nat.{ℕ, suc, _+_, _*_, _-_, _/_, _%_, _≤_, _<_}
+use Prim.Native.Nat.{ℕ, suc, _+_, _*_, _-_, _/_, _≤_, _<_}
 use native.Mathlib.Omega.{arith}
 use borrow.Author.Tests.{lt-ltb, le-ltb, ltb-true, ltb-false, eq-eqb, ne-eqb}
-use lib.Dec.{ltb, eqb}
+use lib.Dec.{ltb}
 use lib.ListN.{length, take, drop, getD, length-append, length-drop, List·getD-append, take-append-drop}
 use lib.Seq.{sets, take-all, sets-eq, length-sets, length-take-le, take-at, drop-at, getD-take}
 use Rattle.wire.specs.Refusal.{rowsFull, poolFull, badSize, badState}
@@ -14,23 +14,27 @@ use Rattle.grammar.specs.Grammar.{Span, Ref, new, known, Value, Item, Items, it
 use Rattle.grammar.specs.Added.{after-adds}
 use Rattle.grammar.specs.Scan.{sound, addsItem, adds, pairs, itemWords, words, complete, incomplete, bad, outcome, Measure, measure}
 use Rattle.grammar.specs.Scan as Scan
-use Rattle.grammar.specs.Choice.{byTest, cond-by, neither}
+use Rattle.grammar.specs.Choice.{byTest, cond-by}
 use Rattle.grammar.specs.Said.{item-length}
 use Rattle.grammar.specs.Laws.{Agree, agree-event}
 use Rattle.grammar.specs.Stores.{sound-sets, pairs-length}
 use Rattle.slice_spec.specs.Slice.{Place, sizesBad, placeBad, itemsAt, tableAfter, placeAfter}
 use Rattle.slice_spec.specs.Queries as Defined
 use Rattle.slice_spec.specs.Queries.{Words, split, named, isElement, allNamed, firstNamed, picks, picked, concat, Progress, past, kindOf, tableWith, writes, done, refused}
+use Rattle.slice_spec.specs.Bounds.{Fits}
 use Rattle.slice_spec.specs.Stored.{words-front}
 use Rattle.slice_spec.specs.Turns.{Turn, passed, halted, passing, turnBy, turn, turnOrRefuse}
 use Rattle.scanner.specs.declared.Pool.{Pool}
 use Rattle.scanner.specs.Tally.{limit}
+use Rattle.scanner.specs.declared.quick.Taken.{Taken}
 use Rattle.scanner.specs.Keep.{Keepable}
+use Rattle.scanner.specs.Step.{Quickly, declined}
+use Rattle.scanner.specs.Step as Step
 use Rattle.scanner.proofs.Walk.{soundOf}
 use Rattle.scanner.proofs.Passes.{complete-ended}
 use Rattle.scanner.specs.declared.select.Query.{Query}
 use Rattle.scanner.specs.declared.select.Query.the-variants as Query
-use Rattle.scanner.specs.Select.{queryOf, takesAll, takesOne, rowsOf, taken, chosen, asked, faultOf, Room, Chose, Whole, Handed, Ready, progress}
+use Rattle.scanner.specs.Select.{queryOf, takesAll, takesOne, rowsOf, taken, chosen, asked, faultOf, Room, Chose, Whole, Handed, progress}
 
 -- ---- what the definition picks, and what the code takes
 
@@ -87,6 +91,12 @@ module _ (document name : List ℕ) where
   chosen-few Query.AllAttributesOf element (w ∷ ws) =
       cond-by (λ (x : List Words). length x ≤ suc (length ws)) (isElement document element w) _ _ (λ _. let h = taken-few true false ws in omega arith) (λ _. omega arith)
 
+-- where no name is added, none is stored
+pub none-stored : (table : List ℕ) (k base : ℕ) (ts : List Span) → 0 ≡ length ts → table ≡ sets table k (pairs base ts)
+unfolding pairs
+none-stored table k base [] h = refl
+none-stored table k base (t ∷ ts) h = absurd (omega arith)
+
 -- ---- rows by their words
 
 module _ (base : ℕ) (table : List ℕ) where
@@ -114,14 +124,6 @@ unfolding asked writes
 asked-writes q element name document g is =
     chosen-picked document name q element _
     ∙ ap (picked (queryOf q element name) document) (sym (rows-split (g .place .at) (tableWith (g .place) (g .table) (adds (g .place .names) is)) is))
-
--- ---- half the words, so that nothing is doubled
-
-pub half-test : (n k : ℕ) → ltb (n / 2) k ≡ ltb n (2 * k)
-half-test n k =
-    byTest (ltb (n / 2) k)
-    (λ a. a ∙ sym (lt-ltb n (2 * k) (let h = ltb-true (n / 2) k a in omega arith)))
-    (λ a. a ∙ sym (le-ltb n (2 * k) (let h = ltb-false (n / 2) k a in omega arith)))
 
 -- ---- no more names than can be named join the pool
 
@@ -211,6 +213,9 @@ module _ (document : List ℕ) (p : Place) (table : List ℕ) (count added : ℕ
     unfolding itemsAt
     same-event = ap (λ (x : ℕ → Bool). event x (p .names) s) e ∙ ap (event (sound (p .names) table (length document)) (p .names)) lent
 
+    pub added-are : added ≡ length (adds (p .names) (event (soundOf pool T) (p .names) s))
+    added-are = w .as-many ∙ ap (λ (x : Items). length (adds (p .names) x)) (sym same-event)
+
     pub keepable : 2 * (p .names + length ts) ≤ length T → Keepable (p .at) s (event (soundOf pool T) (p .names) s) pool T
     keepable h =
         rw same-event
@@ -231,7 +236,7 @@ module _ (document : List ℕ) (p : Place) (table : List ℕ) (count added : ℕ
 
   -- a table, once the event's names are stored after the pool's pairs
   module _ (T : List ℕ) (begins : take (2 * p .names) T ≡ front) (sounds : sound (p .names) T (length document) ≡ sound (p .names) table (length document))
-    (room : 2 * (p .names + length ts) ≤ length T) (T′ : List ℕ) (stored : T′ ≡ sets T (2 * p .names) (pairs (p .at) (adds (p .names) (event (soundOf pool T) (p .names) s)))) where
+      (room : 2 * (p .names + length ts) ≤ length T) (T′ : List ℕ) (stored : T′ ≡ sets T (2 * p .names) (pairs (p .at) (adds (p .names) (event (soundOf pool T) (p .names) s)))) where
     stored-is : T′ ≡ sets T (2 * p .names) fresh
     stored-is = stored ∙ ap (λ (x : Items). sets T (2 * p .names) (pairs (p .at) (adds (p .names) x))) (same-event T sounds)
 
@@ -387,10 +392,13 @@ module _ (document : List ℕ) (p : Place) (table : List ℕ) (count added : ℕ
 
 -- ---- the event at a place
 
-pub lent-small : (document : List ℕ) (p : Place) (table : List ℕ) → Ready document p table → length (take (length document - p .at) (drop (p .at) document)) ≤ limit
-lent-small document p table r =
+pub lent-fits : (document : List ℕ) (p : Place) (table : List ℕ) → Fits p document table → p .at + length (take (length document - p .at) (drop (p .at) document)) ≤ limit
+lent-fits document p table r =
     let l = length-drop (p .at) document in
     omega (arith, ap length (take-all (length document - p .at) (drop (p .at) document) (omega arith)), r .at-fits, r .document-small)
+
+pub lent-small : (document : List ℕ) (p : Place) (table : List ℕ) → Fits p document table → length (take (length document - p .at) (drop (p .at) document)) ≤ limit
+lent-small document p table r = omega (arith, lent-fits document p table r)
 
 module _ (q : Query) (element name document : List ℕ) (p : Place) (table rows : List ℕ) (events written : ℕ) where
   abbrev at-place : Items
@@ -402,14 +410,49 @@ module _ (q : Query) (element name document : List ℕ) (p : Place) (table rows 
   abbrev Turned : Turn
   Turned = turnBy (queryOf q element name) document so-far at-place (outcome true at-place)
 
+  -- an event that is complete
+  turned-by : (n : ℕ) → outcome true at-place ≡ complete n → (x : Turn) → x ≡ passing so-far (kindOf at-place) n (adds (p .names) at-place) (asked q element name document p table at-place) → x ≡ Turned
+  unfolding turnBy
+  turned-by n o x h = h ∙ ap (passing so-far (kindOf at-place) n (adds (p .names) at-place)) (asked-writes q element name document so-far at-place) ∙ rw o
+
+  whole-by : Fits p document table → (n count added : ℕ) → outcome true at-place ≡ complete n → count ≡ Scan.count at-place → added ≡ length (adds (p .names) at-place)
+      → Whole document p table at-place count added
+  whole-by r n count added o c a = record {
+    ended = complete-ended true n at-place o;
+    rows-are = c;
+    as-many = a;
+    at-fits = r .at-fits;
+    names-fit = r .names-fit;
+    document-small = r .document-small;
+    table-small = r .table-small;
+  }
+
+  -- the event as the code lends it
+  abbrev Lent : Items
+  Lent = event (sound (p .names) table (length document)) (p .names) (take (length document - p .at) (drop (p .at) document))
+
+  lent-event : Lent ≡ at-place
+  unfolding itemsAt
+  lent-event =
+      ap (event (sound (p .names) table (length document)) (p .names)) (take-all (length document - p .at) (drop (p .at) document) (omega (arith, length-drop (p .at) document)))
+
+  -- what one pass read
+  module _ (r : Fits p document table) (ws ws′ : List ℕ) (t : Taken) (e : Quickly Lent (p .names) 0 (p .at) table ws ws′ t) (some-bytes : t .len ≡ 0 → ⊥) where
+    quickly : (is : Items) → Quickly is (p .names) 0 (p .at) table ws ws′ t → (outcome true is ≡ complete (t .len)) × (t .rows ≡ Scan.count is) × (0 ≡ length (adds (p .names) is))
+    quickly is (declined z _) = absurd (some-bytes z)
+    quickly is (Step.taken _ o c _ a _) = (o true, sym c, sym (ap length a))
+
+    pub quick-whole : Whole document p table at-place (t .rows) 0
+    quick-whole = let k = quickly at-place (rw lent-event at e) in whole-by r (t .len) (t .rows) 0 (k .0) (k .1) (k .2)
+
+    pub turned-quickly : (x : Turn) → x ≡ passing so-far (kindOf at-place) (t .len) (adds (p .names) at-place) (asked q element name document p table at-place) → x ≡ Turned
+    turned-quickly x h = turned-by (t .len) (quickly at-place (rw lent-event at e) .0) x h
+
   -- what the first pass measured
-  module _ (r : Ready document p table) (m : Measure)
-    (e : m ≡ measure true (p .names) (event (sound (p .names) table (length document)) (p .names) (take (length document - p .at) (drop (p .at) document)))) where
+  module _ (r : Fits p document table) (m : Measure)
+      (e : m ≡ measure true (p .names) Lent) where
     measured : m ≡ measure true (p .names) at-place
-    unfolding itemsAt
-    measured =
-        e ∙ ap (λ (x : List ℕ). measure true (p .names) (event (sound (p .names) table (length document)) (p .names) x))
-        (take-all (length document - p .at) (drop (p .at) document) (omega (arith, length-drop (p .at) document)))
+    measured = e ∙ ap (measure true (p .names)) lent-event
 
     result-is : m .result ≡ outcome true at-place
     unfolding measure
@@ -426,38 +469,15 @@ module _ (q : Query) (element name document : List ℕ) (p : Place) (table rows 
     module _ (n : ℕ) (k : m .result ≡ complete n) where
       pub read-whole : Whole document p table at-place (m .rows) (m .added)
       unfolding measure
-      read-whole = record {
-        ended = complete-ended true n at-place (sym result-is ∙ k);
-        rows-are = ap (λ (x : Measure). x .rows) measured;
-        as-many = ap (λ (x : Measure). x .added) measured;
-        at-fits = r .at-fits;
-        names-fit = r .names-fit;
-        document-small = r .document-small;
-        table-small = r .table-small;
-      }
+      read-whole = whole-by r n (m .rows) (m .added) (sym result-is ∙ k) (ap (λ (x : Measure). x .rows) measured) (ap (λ (x : Measure). x .added) measured)
 
       pub turned-complete : (x : Turn) → x ≡ passing so-far (kindOf at-place) n (adds (p .names) at-place) (asked q element name document p table at-place) → x ≡ Turned
-      unfolding turnBy
-      turned-complete x h =
-          h ∙ ap (passing so-far (kindOf at-place) n (adds (p .names) at-place)) (asked-writes q element name document so-far at-place) ∙ rw (sym result-is ∙ k)
+      turned-complete x h = turned-by n (sym result-is ∙ k) x h
 
   -- ---- what is checked first
 
   abbrev All : Turn
   All = turnOrRefuse (queryOf q element name) document so-far
-
-  pub ready : sizesBad document table ≡ false → placeBad p document table ≡ false → Ready document p table
-  unfolding sizesBad placeBad
-  ready a b =
-      let s₁ = neither (ltb 16_777_216 (length document)) _ a in
-      let s₂ = neither (eqb (length table % 2) 1) _ (s₁ .1) in
-      let t₁ = neither (ltb (length document) (p .at)) _ b in
-      record {
-        at-fits = ltb-false _ _ (t₁ .0);
-        names-fit = ltb-false _ _ (t₁ .1);
-        document-small = ltb-false _ _ (s₁ .0);
-        table-small = ltb-false _ _ (s₂ .1);
-      }
 
   pub refused-sizes : (number detail : ℕ) → sizesBad document table ≡ true → number ≡ badSize → detail ≡ 0 → halted (refused number detail) so-far ≡ All
   unfolding turnOrRefuse

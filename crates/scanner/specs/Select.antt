@@ -115,10 +115,3 @@ pub record Handed (document : List ℕ) (p : Place) (table table′ rows rows′
   pub chose : Chose true (8 * written) ws rows rows′ n
   pub kind-is : kind ≡ Defined.kindOf is
   pub table-is : table′ ≡ sets table (2 * p .names) (pairs (p .at) (adds (p .names) is))
-
--- what holds of a state and of buffers that are not refused, before the end
-pub record Ready (document : List ℕ) (p : Place) (table : List ℕ) : Type 0 where
-  pub at-fits : p .at ≤ length document
-  pub names-fit : 2 * p .names ≤ length table
-  pub document-small : length document ≤ limit
-  pub table-small : length table ≤ 131_070

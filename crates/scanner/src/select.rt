@@ -13,13 +13,14 @@ ghost use lib.ListN.{length};
 ghost use lib.Seq.{sets};
 ghost use Rattle.wire.specs.Token.{builtIn};
 ghost use Rattle.grammar.specs.Grammar.{attributesF, event};
-ghost use Rattle.grammar.specs.Scan.{sound, itemWords, adds, outcome};
+ghost use Rattle.grammar.specs.Scan.{sound, itemWords, adds, pairs, outcome};
 ghost use Rattle.slice_spec.specs.Queries.{named, isElement, concat, kindOf};
 ghost use Rattle.scanner.specs.Answers.{itemOf};
 ghost use Rattle.scanner.specs.Keep.{NamePlaced, ItemPlaced, Keepable};
 ghost use Rattle.slice_spec.specs.Slice.{sizesBad, placeBad, itemsAt};
+ghost use Rattle.slice_spec.specs.Bounds.{Fits};
 ghost use Rattle.slice_spec.specs.Turns.{passing, turnBy, turnOrRefuse};
-ghost use Rattle.scanner.specs.Select.{queryOf, Ready, asked, faultOf, Whole, Handed, progress, turnOf, takesAll, takesOne, taken, chosen, rowsOf, Room, Chose};
+ghost use Rattle.scanner.specs.Select.{queryOf, asked, faultOf, Whole, Handed, progress, turnOf, takesAll, takesOne, taken, chosen, rowsOf, Room, Chose};
 
 // What is asked for: attributes of a name, of elements of a name; or such elements with all their attributes.
 const LIMIT: usize = 16_777_216;
@@ -55,10 +56,7 @@ fn is_named(document: &[u8], base: usize, table: &[u32], item: Item, name: &[u8]
     if event::has_name(item.kind) {
         let reference = item.name;
         let words = crate::name_words(0, base, table, reference);
-        return event::same_bytes(
-            event::text(document, words.source, words.a, words.b),
-            name,
-        );
+        return event::same_bytes(event::text(document, words.source, words.a, words.b), name);
     }
     name.len() == 0
 }
@@ -100,14 +98,7 @@ fn takes_one(query: Query) -> bool
 
 // ---- rows that are taken are counted, and stored where they are to be written
 
-fn put_taken(
-    write: bool,
-    rows: &mut [u32],
-    to: usize,
-    base: usize,
-    table: &[u32],
-    item: Item,
-)
+fn put_taken(write: bool, rows: &mut [u32], to: usize, base: usize, table: &[u32], item: Item)
     requires { ⌜ (write ≡ true → to + 8 ≤ length (now rows)) ⌝ }
     requires { ⌜ ItemPlaced base (now table) (itemOf item) ⌝ }
     ensures { λ _. ⌜ now (rows .exit) ≡ cond write (sets (now (rows .entry)) to (itemWords 0 base (now (table .entry)) (itemOf item))) (now (rows .entry)) ⌝ }
@@ -118,14 +109,7 @@ fn put_taken(
 }
 
 // Whether an attribute is taken: every one, or those of this name.
-fn is_taken(
-    all: bool,
-    document: &[u8],
-    base: usize,
-    table: &[u32],
-    item: Item,
-    name: &[u8],
-) -> bool
+fn is_taken(all: bool, document: &[u8], base: usize, table: &[u32], item: Item, name: &[u8]) -> bool
     requires { ⌜ ItemPlaced base (now table) (itemOf item) ⌝ }
     ensures { λ r. ⌜ r ≡ (all || named (now (document .entry)) (now (name .entry)) (itemWords 0 base (now (table .entry)) (itemOf item))) ⌝ }
 {
@@ -303,7 +287,18 @@ fn count_by(
     crate::keep(s, at, tokens, own, pool);
     let mut none = [0u32; 1];
     let took = take_event(
-        query, element, name, document, s, at, tokens, own, pool, false, &mut none, 0,
+        query,
+        element,
+        name,
+        document,
+        s,
+        at,
+        tokens,
+        own,
+        pool,
+        false,
+        &mut none,
+        0,
     );
     took.rows
 }
@@ -350,7 +345,17 @@ fn count_taken(
     }
     let mut own = [0u32; 131_072];
     count_by(
-        &mut own, query, element, name, document, at, names, tokens, table, count, added,
+        &mut own,
+        query,
+        element,
+        name,
+        document,
+        at,
+        names,
+        tokens,
+        table,
+        count,
+        added,
     )
 }
 
@@ -389,7 +394,16 @@ fn fault(
         }
     }
     let n = count_taken(
-        query, element, name, document, at, names, tokens, table, count, added,
+        query,
+        element,
+        name,
+        document,
+        at,
+        names,
+        tokens,
+        table,
+        count,
+        added,
     );
     if left < n {
         return Refusal::ROWS_FULL;
@@ -398,6 +412,25 @@ fn fault(
         return Refusal::POOL_FULL;
     }
     0
+}
+
+// The event's new names are stored; where it adds none, it is not walked.
+fn keep_added(
+    s: &[u8],
+    base: usize,
+    tokens: &[u16; 256],
+    table: &mut [u32],
+    pool: Pool,
+    added: usize,
+)
+    requires { ⌜ now tokens ≡ builtIn ⌝ }
+    requires { ⌜ Keepable base (now s) (event (sound (pool .kept) (now table) (pool .stored)) (pool .names) (now s)) pool (now table) ⌝ }
+    requires { ⌜ added ≡ length (adds (pool .names) (event (sound (pool .kept) (now table) (pool .stored)) (pool .names) (now s))) ⌝ }
+    ensures { λ _. ⌜ now (table .exit) ≡ sets (now (table .entry)) (2 * pool .names) (pairs base (adds (pool .names) (event (sound (pool .kept) (now (table .entry)) (pool .stored)) (pool .names) (now (s .entry))))) ⌝ }
+{
+    if added != 0 {
+        crate::keep(s, base, tokens, table, pool);
+    }
 }
 
 // The event's new names are stored, then the rows that are taken.
@@ -427,7 +460,7 @@ fn hand_out(
         stored: document.len(),
         names,
     };
-    crate::keep(s, at, tokens, table, pool);
+    keep_added(s, at, tokens, table, pool, added);
     take_event(
         query,
         element,
@@ -485,7 +518,18 @@ fn pick_read(
         return Picked::Refused(Refusal::new(number));
     }
     let took = hand_out(
-        query, element, name, document, at, names, tokens, table, rows, written, count, added,
+        query,
+        element,
+        name,
+        document,
+        at,
+        names,
+        tokens,
+        table,
+        rows,
+        written,
+        count,
+        added,
     );
     Picked::Event {
         kind: took.kind,
@@ -507,7 +551,7 @@ fn pick_at(
     rows: &mut [u32],
     written: usize,
 ) -> Picked
-    requires { ⌜ Ready (now document) (record { at = at; names = names }) (now table) ⌝ }
+    requires { ⌜ Fits (record { at = at; names = names }) (now document) (now table) ⌝ }
     ensures { λ r. ⌜ ((events : ℕ) → turnOf (progress at names (now (table .entry)) (now (rows .entry)) events written) (now (table .exit)) (now (rows .exit)) r ≡ turnBy (queryOf query (now (element .entry)) (now (name .entry))) (now (document .entry)) (progress at names (now (table .entry)) (now (rows .entry)) events written) (itemsAt (record { at = at; names = names }) (now (document .entry)) (now (table .entry))) (outcome true (itemsAt (record { at = at; names = names }) (now (document .entry)) (now (table .entry))))) ⌝ }
 {
     let tokens = wire::tokens::built_in();
@@ -516,13 +560,44 @@ fn pick_at(
         stored: document.len(),
         names,
     };
+    let mut words = [0u32; 80];
+    let taken = crate::read_quickly(&document[at..], at, false, table, pool, &mut words);
+    if taken.len != 0 {
+        return pick_read(
+            query,
+            element,
+            name,
+            document,
+            at,
+            names,
+            &tokens,
+            table,
+            rows,
+            written,
+            taken.rows,
+            0,
+            taken.len,
+        );
+    }
     let m = crate::measure(&document[at..], true, &tokens, table, pool);
     let outcome = m.outcome;
     match outcome {
         Outcome::Incomplete => Picked::End,
         Outcome::Bad(r) => Picked::Refused(r),
         Outcome::Complete(len) => pick_read(
-            query, element, name, document, at, names, &tokens, table, rows, written, m.rows, m.added, len,
+            query,
+            element,
+            name,
+            document,
+            at,
+            names,
+            &tokens,
+            table,
+            rows,
+            written,
+            m.rows,
+            m.added,
+            len,
         ),
     }
 }
@@ -574,6 +649,14 @@ pub fn pick(
         return Picked::End;
     }
     pick_at(
-        query, element, name, document, at, names, table, rows, written,
+        query,
+        element,
+        name,
+        document,
+        at,
+        names,
+        table,
+        rows,
+        written,
     )
 }

@@ -2,44 +2,24 @@
 use mathlib.Core.Bool.{true, false}
 use mathlib.Core.List.{List, []}
 use mathlib.Core.Path.{_≡_, refl, sym, ap, _∙_}
-use Prim.Native.Nat.{ℕ, _+_, _*_, _-_, _/_, _%_, _≤_}
+use Prim.Native.Nat.{ℕ, _+_, _*_, _-_, _/_, _≤_}
 use native.Mathlib.Omega.{arith}
-use borrow.Author.Tests.{lt-ltb, le-ltb, ltb-true, ltb-false, eq-eqb, ne-eqb}
-use lib.Dec.{ltb, eqb}
+use borrow.Author.Tests.{le-ltb, ltb-false, eq-eqb, ne-eqb}
+use lib.Dec.{ltb}
 use lib.ListN.{length, take, drop, length-drop}
 use lib.Seq.{take-all}
 use Rattle.grammar.specs.Grammar.{Items}
 use Rattle.grammar.specs.Laws.{agree-event}
 use Rattle.grammar.specs.Outcomes.{ends-within}
 use Rattle.grammar.specs.Scan.{sound, adds, count, Outcome, complete, incomplete, bad, outcome}
-use Rattle.grammar.specs.Choice.{byTest, neither}
+use Rattle.grammar.specs.Choice.{byTest}
 use Rattle.scanner.specs.Step as Scanned
 use Rattle.scanner.specs.Step.{step, tooLong, outside}
 use Rattle.slice_spec.specs.Slice.{Place, Left, Answer, gives, end, unchanged, sizesBad, placeBad, itemsAt, given, handOut, byOutcome, nextFrom, next, placeAfter, tableAfter}
-use Rattle.slice.specs.Answers.{Fits}
-
--- half the words, so that nothing is doubled
-pub half-test : (n k : ℕ) → ltb (n / 2) k ≡ ltb n (2 * k)
-half-test n k =
-    byTest (ltb (n / 2) k)
-    (λ a. a ∙ sym (lt-ltb n (2 * k) (let h = ltb-true (n / 2) k a in omega arith)))
-    (λ a. a ∙ sym (le-ltb n (2 * k) (let h = ltb-false (n / 2) k a in omega arith)))
+use Rattle.slice_spec.specs.Bounds.{Fits}
 
 module _ (p : Place) (document table rows : List ℕ) where
   -- ---- what every call checks first
-
-  pub fits : sizesBad document table ≡ false → placeBad p document table ≡ false → Fits p document table
-  unfolding sizesBad placeBad
-  fits a b =
-      let s₁ = neither (ltb 16_777_216 (length document)) _ a in
-      let s₂ = neither (eqb (length table % 2) 1) _ (s₁ .1) in
-      let t₁ = neither (ltb (length document) (p .at)) _ b in
-      record {
-        at-fits = ltb-false _ _ (t₁ .0);
-        names-fit = ltb-false _ _ (t₁ .1);
-        document-small = ltb-false _ _ (s₁ .0);
-        table-small = ltb-false _ _ (s₂ .1);
-      }
 
   pub next-sizes : (number detail : ℕ) → sizesBad document table ≡ true → number ≡ 17 → detail ≡ 0 → unchanged p table rows (Answer.refused number detail) ≡ next p document table rows
   unfolding next

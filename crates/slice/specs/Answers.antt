@@ -1,7 +1,6 @@
 -- What the code's places and answers say, in the terms of the slice reader's definition.
 use mathlib.Core.List.{List}
-use Prim.Native.Nat.{ℕ, _*_, _≤_}
-use lib.ListN.{length}
+use Prim.Native.Nat.{ℕ}
 use Rattle.slice_spec.specs.Slice.{Place, Left, Answer, gives, end}
 use Rattle.slice_spec.specs.Slice as Defined
 use Rattle.slice_spec.specs.Queries.{Ending, found, done, Step, on, stop}
@@ -32,13 +31,6 @@ abbrev pub nextOf : Coded.Place → List ℕ → List ℕ → Next → Left
 nextOf old table rows (Next.Event n p) = left p table rows (gives n)
 nextOf old table rows Next.End = left old table rows end
 nextOf old table rows (Next.Refused r) = left old table rows (Answer.refused (r .number) (r .detail))
-
--- what holds of a place and of buffers that are not refused
-pub record Fits (p : Place) (document table : List ℕ) : Type 0 where
-  pub at-fits : p .at ≤ length document
-  pub names-fit : 2 * p .names ≤ length table
-  pub document-small : length document ≤ 16_777_216
-  pub table-small : length table ≤ 131_070
 
 -- ---- queries
 

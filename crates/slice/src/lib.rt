@@ -9,7 +9,8 @@ ghost use mathlib.Core.Path.{_≡_};
 ghost use Prim.Native.Nat.{_*_, _≤_};
 ghost use lib.ListN.{length};
 ghost use Rattle.slice_spec.specs.Slice.{sizesBad, placeBad, create, nextFrom, next};
-ghost use Rattle.slice.specs.Answers.{placeOf, createdOf, nextOf, Fits};
+ghost use Rattle.slice_spec.specs.Bounds.{Fits};
+ghost use Rattle.slice.specs.Answers.{placeOf, createdOf, nextOf};
 
 // Where the next event starts in the document, and how many pairs of the pool table are names.
 pub struct Place {

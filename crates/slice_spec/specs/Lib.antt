@@ -1,4 +1,5 @@
 pub mod Slice
+pub mod Bounds
 pub mod Queries
 pub mod Held
 pub mod Standing
@@ -12,3 +13,5 @@ pub mod Calls
 pub mod Stored
 pub mod Runs
 pub mod Turns
+pub mod Parser
+pub mod Carried

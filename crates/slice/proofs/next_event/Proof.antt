@@ -1,6 +1,7 @@
 use Rattle.slice.specs.Answers.{placeOf}
 use mathlib.Core.Path.{sym, _∙_}
-use Rattle.slice.proofs.Onward.{next-sizes, next-place, next-goes, fits}
+use Rattle.slice.proofs.Onward.{next-sizes, next-place, next-goes}
+use Rattle.slice_spec.specs.Bounds.{fits}
 use borrow.Author.Needs.{needs}
 use Rattle.slice.proofs.next_event.Statement.{statement}
 use Rattle.slice.proofs.next_event.Tie as tie
@@ -39,7 +40,7 @@ next-from-requires : tie.Need-next-from-requires
 next-from-requires c κs =
     let a = c .before .before .before .before .before .before .before .before .before .before .before .args in
     let p = placeOf (a .place) in
-    fits p (a .document .now) (a .pool .now) (a .rows .now) (sym (c .before .before .before .before .before .before .sizes-bad .ensures) ∙ c .before .before .before .before .before .if1 .left) (sym (c .before .before .before .place-bad .ensures) ∙ c .before .before .if2 .left)
+    fits p (a .document .now) (a .pool .now) (sym (c .before .before .before .before .before .before .sizes-bad .ensures) ∙ c .before .before .before .before .before .if1 .left) (sym (c .before .before .before .place-bad .ensures) ∙ c .before .before .if2 .left)
 
 same-length-3 : tie.Need-same-length-3
 same-length-3 c = search needs

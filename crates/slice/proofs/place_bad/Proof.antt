@@ -1,5 +1,5 @@
 use lib.ListN.{length}
-use Rattle.slice.proofs.Onward.{half-test}
+use Rattle.grammar.specs.Choice.{half-test}
 use Rattle.slice_spec.specs.Slice.{placeBad}
 use borrow.Author.Tests.{lt-ltb, le-ltb}
 use Rattle.slice.proofs.place_bad.Statement.{statement}

@@ -4,14 +4,14 @@ use mathlib.Core.List.{List}
 use Prim.Native.Nat.{ℕ}
 use lib.ListN.{length}
 use Rattle.slice_spec.specs.Slice.{Place}
-use Rattle.scanner.proofs.Picking.{more-room, keepable, stored-keepable, stored-rows, stored-kind, stored-table, asked-by}
+use Rattle.scanner.proofs.Picking.{more-room, added-are, keepable, stored-keepable, stored-rows, stored-kind, stored-table, asked-by}
 use borrow.Author.Needs.{needs}
 use Rattle.scanner.proofs.select.hand_out.Statement.{statement}
 use Rattle.scanner.proofs.select.hand_out.Tie as tie
 use Rattle.scanner.proofs.select.hand_out.Reads as reads
 use Rattle.scanner.proofs.select.hand_out.Lts as lts
 use Rattle.scanner.proofs.select.take_event.Reads as take-event-reads
-use Rattle.scanner.proofs.keep.Reads as keep-reads
+use Rattle.scanner.proofs.select.keep_added.Reads as keep-added-reads
 
 -- src/select.rt:420:13
 sub-s : tie.Need-sub-s
@@ -26,14 +26,14 @@ part-s-end : tie.Need-part-s-end
 part-s-end c = search needs
 
 -- src/select.rt:426:5
-keep-requires : tie.Need-keep-requires
-keep-requires c κs =
+keep-added-requires : tie.Need-keep-added-requires
+keep-added-requires c κs =
     let a = c .before .before .before .before .before .before .before .args in
     let p = c .before .before .before .before .before .before .before .pre in
     let pl : Place = record { at = a .at; names = a .names } in
     let w = p .1 .0 in
     let room = more-room (a .document .now) pl (a .table .now) (a .count) (a .added) w (p .1 .1 .0) in
-    (p .0, keepable (a .document .now) pl (a .table .now) (a .count) (a .added) w _ refl room)
+    (p .0, (keepable (a .document .now) pl (a .table .now) (a .count) (a .added) w _ refl room, added-are (a .document .now) pl (a .table .now) (a .count) (a .added) w _ refl))
 
 -- src/select.rt:439:9
 mul-take-event : tie.Need-mul-take-event
@@ -53,8 +53,8 @@ take-event-requires c κs =
     let pl : Place = record { at = a .at; names = a .names } in
     let w = p .1 .0 in
     let room = more-room (a .document .now) pl (a .table .now) (a .count) (a .added) w (p .1 .1 .0) in
-    let k = stored-keepable (a .document .now) pl (a .table .now) (a .count) (a .added) w _ refl refl room _ (c .before .before .before .before .keep .ensures) in
-    let n = ap length (asked-by (a .document .now) pl (a .table .now) (a .count) (a .added) w (a .query) (a .element .now) (a .name .now) _ _ (stored-rows (a .document .now) pl (a .table .now) (a .count) (a .added) w _ refl refl room _ (c .before .before .before .before .keep .ensures))) in
+    let k = stored-keepable (a .document .now) pl (a .table .now) (a .count) (a .added) w _ refl refl room _ (c .before .before .before .before .keep-added .ensures) in
+    let n = ap length (asked-by (a .document .now) pl (a .table .now) (a .count) (a .added) w (a .query) (a .element .now) (a .name .now) _ _ (stored-rows (a .document .now) pl (a .table .now) (a .count) (a .added) w _ refl refl room _ (c .before .before .before .before .keep-added .ensures))) in
     (p .0, (k, (rw n (p .1 .1 .1), (λ t. absurd (let z : _≡_ {A = ℕ} 0 1 = cc t in omega arith)))))
 
 -- src/select.rt:400:1
@@ -73,8 +73,8 @@ returns c =
     let pl : Place = record { at = a .at; names = a .names } in
     let w = p .1 .0 in
     let room = more-room (a .document .now) pl (a .table .now) (a .count) (a .added) w (p .1 .1 .0) in
-    let z = asked-by (a .document .now) pl (a .table .now) (a .count) (a .added) w (a .query) (a .element .now) (a .name .now) _ _ (stored-rows (a .document .now) pl (a .table .now) (a .count) (a .added) w _ refl refl room _ (c .before .before .before .before .before .before .before .keep .ensures)) in
-    record { chose = rw z at (c .before .before .take-event .ensures .0); kind-is = c .before .before .take-event .ensures .1 ∙ stored-kind (a .document .now) pl (a .table .now) (a .count) (a .added) w _ refl refl room _ (c .before .before .before .before .before .before .before .keep .ensures); table-is = stored-table (a .document .now) pl (a .table .now) (a .count) (a .added) w _ refl refl room _ (c .before .before .before .before .before .before .before .keep .ensures) }
+    let z = asked-by (a .document .now) pl (a .table .now) (a .count) (a .added) w (a .query) (a .element .now) (a .name .now) _ _ (stored-rows (a .document .now) pl (a .table .now) (a .count) (a .added) w _ refl refl room _ (c .before .before .before .before .before .before .before .keep-added .ensures)) in
+    record { chose = rw z at (c .before .before .take-event .ensures .0); kind-is = c .before .before .take-event .ensures .1 ∙ stored-kind (a .document .now) pl (a .table .now) (a .count) (a .added) w _ refl refl room _ (c .before .before .before .before .before .before .before .keep-added .ensures); table-is = stored-table (a .document .now) pl (a .table .now) (a .count) (a .added) w _ refl refl room _ (c .before .before .before .before .before .before .before .keep-added .ensures) }
 
 pub hand-out-spec : {M : Type 1} → statement M
 hand-out-spec =
@@ -83,7 +83,7 @@ hand-out-spec =
     sub-s
     part-s-start
     part-s-end
-    keep-requires
+    keep-added-requires
     mul-take-event
     take-event-requires
     same-length

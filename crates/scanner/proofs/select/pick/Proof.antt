@@ -4,7 +4,8 @@ use mathlib.Core.List.{List}
 use Prim.Native.Nat.{ℕ}
 use lib.ListN.{length}
 use Rattle.slice_spec.specs.Slice.{Place}
-use Rattle.scanner.proofs.Picking.{refused-sizes, refused-place, at-end, ready, goes}
+use Rattle.scanner.proofs.Picking.{refused-sizes, refused-place, at-end, goes}
+use Rattle.slice_spec.specs.Bounds.{fits}
 use borrow.Author.Needs.{needs}
 use Rattle.scanner.proofs.select.pick.Statement.{statement}
 use Rattle.scanner.proofs.select.pick.Tie as tie
@@ -73,7 +74,7 @@ pick-at-requires c κs =
     let a = c .before .before .before .before .before .before .before .before .before .before .before .before .before .before .args in
     let p = c .before .before .before .before .before .before .before .before .before .before .before .before .before .before .pre in
     let pl : Place = record { at = a .at; names = a .names } in
-    ready (a .query) (a .element .now) (a .name .now) (a .document .now) pl (a .table .now) (a .rows .now) 0 (a .written) (sym (c .before .before .before .before .before .before .before .sizes-bad .ensures) ∙ c .before .before .before .before .before .before .if1 .left) (sym (c .before .before .before .before .place-bad .ensures) ∙ c .before .before .before .if2 .left)
+    fits pl (a .document .now) (a .table .now) (sym (c .before .before .before .before .before .before .before .sizes-bad .ensures) ∙ c .before .before .before .before .before .before .if1 .left) (sym (c .before .before .before .before .place-bad .ensures) ∙ c .before .before .before .if2 .left)
 
 -- src/select.rt:554:1
 same-length-4 : tie.Need-same-length-4

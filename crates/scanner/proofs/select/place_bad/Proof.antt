@@ -1,7 +1,7 @@
 use lib.ListN.{length}
 use Rattle.slice_spec.specs.Slice.{placeBad}
 use borrow.Author.Tests.{lt-ltb, le-ltb}
-use Rattle.scanner.proofs.Picking.{half-test}
+use Rattle.grammar.specs.Choice.{half-test}
 use Rattle.scanner.proofs.select.place_bad.Statement.{statement}
 use Rattle.scanner.proofs.select.place_bad.Tie as tie
 use Rattle.scanner.proofs.select.place_bad.Reads as reads

@@ -1,0 +1,388 @@
+// The slice reader that carries the caller's document with it: a struct over the calls of crate slice.
+use slice::Created;
+use slice::Next;
+use slice::Place;
+use slice::queries;
+use slice::queries::Queried;
+use wire::Refusal;
+ghost use mathlib.Core.Path.{_≡_};
+ghost use denote.Ref.{ptr};
+ghost use Rattle.slice_spec.specs.Queries.{find-attribute, attributes-of, find-all-attributes, all-attributes-of};
+ghost use Rattle.slice_spec.specs.Parser.{new, next, asks, text, textAt};
+ghost use Rattle.parser.specs.Answers.{held, parserOf, openedOf, leftOf, soughtOf, refusedAt, askedOf};
+
+// A document, the place of its next event, and how many pairs of the pool table are names; then the number and detail of a
+// refused `new`, 0 if it was not refused. They stand here because an enum can't hold a reference.
+pub struct AbxParser<'a> {
+    pub document: &'a [u8],
+    pub at: usize,
+    pub names: usize,
+    pub number: u32,
+    pub detail: u32,
+}
+
+// What next_event answers: an event of so many rows, whose place after it went into the parser; the end; or a refusal.
+pub enum Parsed {
+    Event(usize),
+    End,
+    Refused(Refusal),
+}
+
+// What a query answers: how it ended, how many events it consumed, and how many rows it wrote. A refused query keeps what it
+// found before.
+pub enum Asked {
+    Found {
+        events: usize,
+        rows: usize,
+    },
+    Done {
+        events: usize,
+        rows: usize,
+    },
+    Refused {
+        refusal: Refusal,
+        events: usize,
+        rows: usize,
+    },
+}
+
+// ---- what the methods do, with the struct's fields as parameters
+
+// The numbers of a new parser.
+struct Opened {
+    at: usize,
+    names: usize,
+    number: u32,
+    detail: u32,
+}
+
+fn start(document: &[u8], pool: &[u32]) -> Opened
+    ensures { λ r. ⌜ openedOf (document .entry) r ≡ new (now (document .entry)) (ptr (document .entry)) (now (pool .entry)) ⌝ }
+{
+    match slice::create(document, pool) {
+        Created::Place(p) => Opened {
+            at: p.at,
+            names: p.names,
+            number: 0,
+            detail: 0,
+        },
+        Created::Refused(r) => Opened {
+            at: 0,
+            names: 0,
+            number: r.number,
+            detail: r.detail,
+        },
+    }
+}
+
+// The place of a parser that has answered, and the answer.
+struct Stepped {
+    at: usize,
+    names: usize,
+    answer: Parsed,
+}
+
+fn step(
+    document: &[u8],
+    at: usize,
+    names: usize,
+    number: u32,
+    detail: u32,
+    pool: &mut [u32],
+    rows: &mut [u32],
+) -> Stepped
+    ensures { λ r. ⌜ leftOf (held (document .entry) (r .at) (r .names) number detail) (now (pool .exit)) (now (rows .exit)) (r .answer)
+        ≡ next (parserOf (held (document .entry) at names number detail)) (now (pool .entry)) (now (rows .entry)) ⌝ }
+{
+    if number != 0 {
+        return Stepped {
+            at,
+            names,
+            answer: Parsed::Refused(Refusal { number, detail }),
+        };
+    }
+    match slice::next_event(Place { at, names }, document, pool, rows) {
+        Next::Event { rows: count, place } => Stepped {
+            at: place.at,
+            names: place.names,
+            answer: Parsed::Event(count),
+        },
+        Next::End => Stepped {
+            at,
+            names,
+            answer: Parsed::End,
+        },
+        Next::Refused(r) => Stepped {
+            at,
+            names,
+            answer: Parsed::Refused(r),
+        },
+    }
+}
+
+// The place of a parser that was asked, and the answer.
+struct Sought {
+    at: usize,
+    names: usize,
+    answer: Asked,
+}
+
+// What the slice reader answered, its place apart.
+fn apart(queried: Queried) -> Sought
+    ensures { λ r. ⌜ r ≡ soughtOf queried ⌝ }
+{
+    match queried {
+        Queried::Found(found) => Sought {
+            at: found.place.at,
+            names: found.place.names,
+            answer: Asked::Found {
+                events: found.events,
+                rows: found.rows,
+            },
+        },
+        Queried::Done(done) => Sought {
+            at: done.place.at,
+            names: done.place.names,
+            answer: Asked::Done {
+                events: done.events,
+                rows: done.rows,
+            },
+        },
+        Queried::Refused { refusal, reached } => Sought {
+            at: reached.place.at,
+            names: reached.place.names,
+            answer: Asked::Refused {
+                refusal,
+                events: reached.events,
+                rows: reached.rows,
+            },
+        },
+    }
+}
+
+// A refused `new` is the answer, and nothing was consumed.
+fn unasked(at: usize, names: usize, number: u32, detail: u32) -> Sought
+    ensures { λ r. ⌜ r ≡ refusedAt at names number detail ⌝ }
+{
+    Sought {
+        at,
+        names,
+        answer: Asked::Refused {
+            refusal: Refusal { number, detail },
+            events: 0,
+            rows: 0,
+        },
+    }
+}
+
+fn find_attribute(
+    document: &[u8],
+    element: &[u8],
+    name: &[u8],
+    at: usize,
+    names: usize,
+    number: u32,
+    detail: u32,
+    pool: &mut [u32],
+    rows: &mut [u32],
+) -> Sought
+    ensures { λ r. ⌜ askedOf (held (document .entry) (r .at) (r .names) number detail) (now (pool .exit)) (now (rows .exit)) (r .answer)
+        ≡ asks (find-attribute (now (element .entry)) (now (name .entry))) (parserOf (held (document .entry) at names number detail)) (now (pool .entry)) (now (rows .entry)) ⌝ }
+{
+    if number != 0 {
+        return unasked(at, names, number, detail);
+    }
+    apart(queries::find_attribute(Place { at, names }, document, pool, rows, element, name))
+}
+
+fn attributes_of(
+    document: &[u8],
+    element: &[u8],
+    at: usize,
+    names: usize,
+    number: u32,
+    detail: u32,
+    pool: &mut [u32],
+    rows: &mut [u32],
+) -> Sought
+    ensures { λ r. ⌜ askedOf (held (document .entry) (r .at) (r .names) number detail) (now (pool .exit)) (now (rows .exit)) (r .answer)
+        ≡ asks (attributes-of (now (element .entry))) (parserOf (held (document .entry) at names number detail)) (now (pool .entry)) (now (rows .entry)) ⌝ }
+{
+    if number != 0 {
+        return unasked(at, names, number, detail);
+    }
+    apart(queries::attributes_of(Place { at, names }, document, pool, rows, element))
+}
+
+fn find_all_attributes(
+    document: &[u8],
+    element: &[u8],
+    name: &[u8],
+    at: usize,
+    names: usize,
+    number: u32,
+    detail: u32,
+    pool: &mut [u32],
+    rows: &mut [u32],
+) -> Sought
+    ensures { λ r. ⌜ askedOf (held (document .entry) (r .at) (r .names) number detail) (now (pool .exit)) (now (rows .exit)) (r .answer)
+        ≡ asks (find-all-attributes (now (element .entry)) (now (name .entry))) (parserOf (held (document .entry) at names number detail)) (now (pool .entry)) (now (rows .entry)) ⌝ }
+{
+    if number != 0 {
+        return unasked(at, names, number, detail);
+    }
+    apart(queries::find_all_attributes(Place { at, names }, document, pool, rows, element, name))
+}
+
+fn all_attributes_of(
+    document: &[u8],
+    element: &[u8],
+    at: usize,
+    names: usize,
+    number: u32,
+    detail: u32,
+    pool: &mut [u32],
+    rows: &mut [u32],
+) -> Sought
+    ensures { λ r. ⌜ askedOf (held (document .entry) (r .at) (r .names) number detail) (now (pool .exit)) (now (rows .exit)) (r .answer)
+        ≡ asks (all-attributes-of (now (element .entry))) (parserOf (held (document .entry) at names number detail)) (now (pool .entry)) (now (rows .entry)) ⌝ }
+{
+    if number != 0 {
+        return unasked(at, names, number, detail);
+    }
+    apart(queries::all_attributes_of(Place { at, names }, document, pool, rows, element))
+}
+
+// ---- the parser
+
+impl<'a> AbxParser<'a> {
+    // A parser of the document, past its header.
+    pub fn new(document: &'a [u8], pool: &[u32]) -> AbxParser<'a>
+        ensures { λ r. ⌜ parserOf r ≡ new (now (document .entry)) (ptr (document .entry)) (now (pool .entry)) ⌝ }
+    {
+        let s = start(document, pool);
+        AbxParser {
+            document,
+            at: s.at,
+            names: s.names,
+            number: s.number,
+            detail: s.detail,
+        }
+    }
+
+    // The next event, its rows written from the first word on and its new names to the pool; or the end.
+    pub fn next_event(&mut self, pool: &mut [u32], rows: &mut [u32]) -> Parsed
+        ensures { λ r. ⌜ leftOf (now (self .exit)) (now (pool .exit)) (now (rows .exit)) r ≡ next (parserOf (now (self .entry))) (now (pool .entry)) (now (rows .entry)) ⌝ }
+    {
+        let s = step(
+            self.document,
+            self.at,
+            self.names,
+            self.number,
+            self.detail,
+            pool,
+            rows,
+        );
+        self.at = s.at;
+        self.names = s.names;
+        s.answer
+    }
+
+    // The first attribute of this name on the next element of that name that has it.
+    pub fn find_attribute(
+        &mut self,
+        element: &[u8],
+        name: &[u8],
+        pool: &mut [u32],
+        rows: &mut [u32],
+    ) -> Asked
+        ensures { λ r. ⌜ askedOf (now (self .exit)) (now (pool .exit)) (now (rows .exit)) r ≡ asks (find-attribute (now (element .entry)) (now (name .entry))) (parserOf (now (self .entry))) (now (pool .entry)) (now (rows .entry)) ⌝ }
+    {
+        let s = find_attribute(
+            self.document,
+            element,
+            name,
+            self.at,
+            self.names,
+            self.number,
+            self.detail,
+            pool,
+            rows,
+        );
+        self.at = s.at;
+        self.names = s.names;
+        s.answer
+    }
+
+    // The next element of this name: its row, and the rows of its attributes.
+    pub fn attributes_of(&mut self, element: &[u8], pool: &mut [u32], rows: &mut [u32]) -> Asked
+        ensures { λ r. ⌜ askedOf (now (self .exit)) (now (pool .exit)) (now (rows .exit)) r ≡ asks (attributes-of (now (element .entry))) (parserOf (now (self .entry))) (now (pool .entry)) (now (rows .entry)) ⌝ }
+    {
+        let s = attributes_of(
+            self.document,
+            element,
+            self.at,
+            self.names,
+            self.number,
+            self.detail,
+            pool,
+            rows,
+        );
+        self.at = s.at;
+        self.names = s.names;
+        s.answer
+    }
+
+    // Every attribute of this name on every element of that name, to the end of the input.
+    pub fn find_all_attributes(
+        &mut self,
+        element: &[u8],
+        name: &[u8],
+        pool: &mut [u32],
+        rows: &mut [u32],
+    ) -> Asked
+        ensures { λ r. ⌜ askedOf (now (self .exit)) (now (pool .exit)) (now (rows .exit)) r ≡ asks (find-all-attributes (now (element .entry)) (now (name .entry))) (parserOf (now (self .entry))) (now (pool .entry)) (now (rows .entry)) ⌝ }
+    {
+        let s = find_all_attributes(
+            self.document,
+            element,
+            name,
+            self.at,
+            self.names,
+            self.number,
+            self.detail,
+            pool,
+            rows,
+        );
+        self.at = s.at;
+        self.names = s.names;
+        s.answer
+    }
+
+    // Every element of this name, its row and the rows of its attributes, to the end of the input.
+    pub fn all_attributes_of(&mut self, element: &[u8], pool: &mut [u32], rows: &mut [u32]) -> Asked
+        ensures { λ r. ⌜ askedOf (now (self .exit)) (now (pool .exit)) (now (rows .exit)) r ≡ asks (all-attributes-of (now (element .entry))) (parserOf (now (self .entry))) (now (pool .entry)) (now (rows .entry)) ⌝ }
+    {
+        let s = all_attributes_of(
+            self.document,
+            element,
+            self.at,
+            self.names,
+            self.number,
+            self.detail,
+            pool,
+            rows,
+        );
+        self.at = s.at;
+        self.names = s.names;
+        s.answer
+    }
+
+    // A string's bytes, as a part of the document; the empty part at its start where the span names no bytes.
+    pub fn text(self, source: u32, start: u32, len: u32) -> &'a [u8]
+        ensures bytes { λ r. ⌜ now r ≡ text (parserOf (self .entry)) source start len ⌝ }
+        ensures place { λ r. ⌜ ptr r ≡ textAt (parserOf (self .entry)) source start len ⌝ }
+    {
+        event::text(self.document, source, start, len)
+    }
+}
