@@ -1,3 +1,4 @@
+mod Choices
 mod Tests
 mod Turns
 mod Shapes

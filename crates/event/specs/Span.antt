@@ -3,7 +3,7 @@ use mathlib.Core.Bool.{Bool, true, false, cond, _&&_}
 use mathlib.Core.List.{List, [], _∷_}
 use Prim.Native.Nat.{ℕ, _+_}
 use lib.Dec.{leb, eqb}
-use lib.ListN.{length, take, drop}
+use lib.ListN.{length, getD, take, drop}
 
 -- the bytes of a store from a start on; none where the span ends outside
 unfoldable pub part : List ℕ → ℕ → ℕ → List ℕ
@@ -12,6 +12,10 @@ part store start len = cond (leb (start + len) (length store)) (take len (drop s
 -- source 0 is the first store, 1 the second; none for any other
 unfoldable pub span : List ℕ → List ℕ → ℕ → ℕ → ℕ → List ℕ
 span first second source start len = cond (eqb source 0) (part first start len) (cond (eqb source 1) (part second start len) [])
+
+-- the span that the first eight words name as a value
+abbrev pub valueIn : List ℕ → List ℕ → List ℕ → List ℕ
+valueIn first second w = span first second (getD w 5 0) (getD w 6 0) (getD w 7 0)
 
 -- in a document alone source 0 is the document
 unfoldable pub text : List ℕ → ℕ → ℕ → ℕ → List ℕ

@@ -1,5 +1,5 @@
 -- Which words form rows; all others are refused 16 where rows are taken.
-use mathlib.Core.Bool.{Bool, true, false, cond, _&&_}
+use mathlib.Core.Bool.{Bool, true, false, cond, _&&_, _||_}
 use mathlib.Core.List.{List}
 use Prim.Native.Nat.{ℕ, zero, suc, _/_, _%_}
 use lib.Dec.{leb, ltb, eqb}
@@ -9,6 +9,10 @@ use Rattle.event.specs.Span.{spanIn}
 use Rattle.event.specs.Row.{shape}
 use Rattle.event.specs.declared.Shape.{Shape}
 use Rattle.event.specs.declared.Shape.the-variants as Shape
+
+-- a type is one of three
+unfoldable pub oneOf : ℕ → ℕ → ℕ → ℕ → Bool
+oneOf type a b c = eqb type a || eqb type b || eqb type c
 
 -- so many words from a place on are unused: 0
 unfoldable pub zeros : List ℕ → ℕ → ℕ → Bool

@@ -2,6 +2,7 @@
 use wire::Command;
 use wire::Refusal;
 use wire::Type;
+ghost use mathlib.Core.Bool.{cond};
 ghost use mathlib.Core.Path.{_≡_};
 ghost use Prim.Native.Nat.{_+_, _*_, _/_, _^_, _≤_};
 ghost use denote.Ref.{ptr};
@@ -9,9 +10,9 @@ ghost use lib.ListN.{length, getD};
 ghost use mir.Syntax.{w32, w64};
 ghost use mir.Val.{toZ};
 ghost use Rattle.wire.specs.Refusal.{notRows};
-ghost use Rattle.event.specs.Span.{span, text, spanAt, textAt, spanIn, same};
+ghost use Rattle.event.specs.Span.{span, text, spanAt, textAt, spanIn, valueIn, same};
 ghost use Rattle.event.specs.Row.{shape, hasName, rowAt, sameValue, equalRows};
-ghost use Rattle.event.specs.Words.{zeros, valueForms, attributeForms, rowForms, rowFormsIn, opens, single, listForms, eventForms};
+ghost use Rattle.event.specs.Words.{oneOf, zeros, valueForms, attributeForms, rowForms, rowFormsIn, opens, single, listForms, eventForms};
 ghost use Rattle.event.specs.Value.{refused, valueByType, rowValue, attributeValue, accessedOf};
 
 // ---- spans
@@ -106,18 +107,30 @@ pub fn shape_of(type_: u32) -> Shape
     }
 }
 
+// One of two answers, without a branch: a list's rows come in no order that a branch could be guessed by.
+fn choose(first: bool, yes: bool, no: bool) -> bool
+    ensures { λ r. ⌜ r ≡ cond first yes no ⌝ }
+{
+    (first & yes) | (!first & no)
+}
+
+// Whether a type is one of three.
+fn is_one_of(type_: u32, a: u32, b: u32, c: u32) -> bool
+    ensures { λ r. ⌜ r ≡ oneOf «type_» a b c ⌝ }
+{
+    (type_ == a) | (type_ == b) | (type_ == c)
+}
+
 // Whether a span ends inside the store that its source names.
 fn span_in(first: &[u8], second: &[u8], source: u32, start: u32, len: u32) -> bool
     ensures { λ r. ⌜ r ≡ spanIn (now (first .entry)) (now (second .entry)) source start len ⌝ }
 {
     let end = start as usize + len as usize;
-    if source == 0 {
-        return end <= first.len();
-    }
-    if source == 1 {
-        return end <= second.len();
-    }
-    false
+    choose(
+        source == 0,
+        end <= first.len(),
+        choose(source == 1, end <= second.len(), false),
+    )
 }
 
 // Whether the n words from the word at on are 0.
@@ -125,14 +138,13 @@ fn unused(w: &[u32], at: usize, n: usize) -> bool
     requires { ⌜ at + n ≤ length (now w) ⌝ }
     ensures { λ r. ⌜ r ≡ zeros (now (w .entry)) at n ⌝ }
 {
+    let mut all = true;
     let mut k = 0;
     while k < n {
-        if w[at + k] != 0 {
-            return false;
-        }
+        all = all & (w[at + k] == 0);
         k += 1;
     }
-    true
+    all
 }
 
 // The last three words of an attribute; valued says that they are a span that may stand there.
@@ -140,15 +152,27 @@ fn value_forms(valued: bool, w: &[u32]) -> bool
     requires { ⌜ 8 ≤ length (now w) ⌝ }
     ensures { λ r. ⌜ r ≡ valueForms valued (now (w .entry)) (shape (getD (now (w .entry)) 4 0)) ⌝ }
 {
-    match shape_of(w[4]) {
-        Shape::Nothing => unused(w, 5, 3),
-        Shape::String => valued,
-        Shape::Interned => false,
-        Shape::Blob => valued,
-        Shape::Word => unused(w, 5, 2),
-        Shape::Pair => unused(w, 5, 1),
-        Shape::Unknown => false,
-    }
+    let type_ = w[4];
+    let none = choose(
+        is_one_of(type_, Type::NULL, Type::BOOLEAN_TRUE, Type::BOOLEAN_FALSE),
+        unused(w, 5, 3),
+        false,
+    );
+    let word = choose(
+        is_one_of(type_, Type::INT, Type::INT_HEX, Type::FLOAT),
+        unused(w, 5, 2),
+        none,
+    );
+    let pair = choose(
+        is_one_of(type_, Type::LONG, Type::LONG_HEX, Type::DOUBLE),
+        unused(w, 5, 1),
+        word,
+    );
+    choose(
+        is_one_of(type_, Type::STRING, Type::BYTES_HEX, Type::BYTES_BASE64),
+        valued,
+        pair,
+    )
 }
 
 // An attribute's words after its kind; named says that the name's are a span that may stand there.
@@ -156,10 +180,7 @@ fn attribute_forms(named: bool, valued: bool, w: &[u32]) -> bool
     requires { ⌜ 8 ≤ length (now w) ⌝ }
     ensures { λ r. ⌜ r ≡ attributeForms named valued (now (w .entry)) ⌝ }
 {
-    if named {
-        return value_forms(valued, w);
-    }
-    false
+    named & value_forms(valued, w)
 }
 
 // The first eight words; inside says that an attribute may stand here.
@@ -168,31 +189,18 @@ fn row_forms(named: bool, valued: bool, inside: bool, w: &[u32]) -> bool
     ensures { λ r. ⌜ r ≡ rowForms named valued inside (now (w .entry)) ⌝ }
 {
     let kind = w[0];
-    if kind < Command::START_TAG {
-        return unused(w, 1, 7);
-    }
-    if kind < Command::TEXT {
-        if named {
-            return unused(w, 4, 4);
-        }
-        return false;
-    }
-    if kind <= Command::DOC_DECL {
-        if w[4] != Type::STRING {
-            return false;
-        }
-        if valued {
-            return unused(w, 1, 3);
-        }
-        return false;
-    }
-    if kind != Command::ATTRIBUTE {
-        return false;
-    }
-    if inside {
-        return attribute_forms(named, valued, w);
-    }
-    false
+    let attribute = choose(
+        kind == Command::ATTRIBUTE,
+        inside & attribute_forms(named, valued, w),
+        false,
+    );
+    let text = choose(
+        kind <= Command::DOC_DECL,
+        (w[4] == Type::STRING) & (valued & unused(w, 1, 3)),
+        attribute,
+    );
+    let tag = choose(kind < Command::TEXT, named & unused(w, 4, 4), text);
+    choose(kind < Command::START_TAG, unused(w, 1, 7), tag)
 }
 
 // The same with the spans looked up in two stores.
@@ -288,6 +296,24 @@ fn name_of<'a>(first: &'a [u8], second: &'a [u8], w: &[u32]) -> &'a [u8]
     &first[..0]
 }
 
+// Whether the values of two rows, as spans, are the same bytes.
+fn same_spans<'a>(
+    first: &'a [u8],
+    second: &'a [u8],
+    w: &[u32],
+    other_first: &'a [u8],
+    other_second: &'a [u8],
+    v: &[u32],
+) -> bool
+    requires { ⌜ (8 ≤ length (now w)) × (8 ≤ length (now v)) ⌝ }
+    ensures { λ r. ⌜ r ≡ same (valueIn (now (first .entry)) (now (second .entry)) (now (w .entry))) (valueIn (now («other_first» .entry)) (now («other_second» .entry)) (now (v .entry))) ⌝ }
+{
+    same_bytes(
+        span(first, second, w[5], w[6], w[7]),
+        span(other_first, other_second, v[5], v[6], v[7]),
+    )
+}
+
 // Whether the values of two rows of one type are equal.
 fn same_value<'a>(
     first: &'a [u8],
@@ -302,15 +328,9 @@ fn same_value<'a>(
 {
     match shape_of(w[4]) {
         Shape::Nothing => true,
-        Shape::String => same_bytes(
-            span(first, second, w[5], w[6], w[7]),
-            span(other_first, other_second, v[5], v[6], v[7]),
-        ),
+        Shape::String => same_spans(first, second, w, other_first, other_second, v),
         Shape::Interned => true,
-        Shape::Blob => same_bytes(
-            span(first, second, w[5], w[6], w[7]),
-            span(other_first, other_second, v[5], v[6], v[7]),
-        ),
+        Shape::Blob => same_spans(first, second, w, other_first, other_second, v),
         Shape::Word => w[7] == v[7],
         Shape::Pair => {
             if w[6] != v[6] {

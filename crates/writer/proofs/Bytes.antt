@@ -19,7 +19,7 @@ use Rattle.writer.specs.Passes.{namedBy, rowBy, tokenIn}
 use Rattle.writer.proofs.Values.{sized-length}
 
 -- a part that was lent and is back with other bytes in it
-part-back : (l ws : List ℕ) (i k : ℕ) → k ≡ length ws → i + length ws ≤ length l → putMid i k l ws ≡ sets l i ws
+pub part-back : (l ws : List ℕ) (i k : ℕ) → k ≡ length ws → i + length ws ≤ length l → putMid i k l ws ≡ sets l i ws
 part-back l ws i k e h = rw (e, drop-drop) (sym (append-assoc (take i l) ws (drop (i + length ws) l)) ∙ sym (sets-eq ws l i h))
 
 -- parts one after another

@@ -6,6 +6,7 @@ mod Keeps
 mod Pools
 mod Noting
 mod Bytes
+mod Blocks
 mod Measures
 mod Turns
 mod Measuring

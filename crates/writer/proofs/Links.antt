@@ -12,7 +12,8 @@ use lib.Seq.{getD-append-add, getD-set-same, getD-set-other}
 use Rattle.event.specs.Span.{span, same}
 use Rattle.event.specs.Laws.{same-refl}
 use Rattle.grammar.specs.Choice.{byTest, cond-by}
-use Rattle.writer.specs.Notes.{slotBy, slotOf, noteName, noteLink, count, Chain, Linked}
+use Rattle.writer.specs.Notes.{slotBy, slotOf, noteName, noteLink, count, Chain, Linked, LookSays, Recalled}
+use Rattle.writer.specs.declared.Look.the-variants as Look
 
 -- ---- slots
 
@@ -24,7 +25,7 @@ scaled x slots h =
 pub product-fits : (x slots : ℕ) → 0 < slots → slots < 65536 → x % 4294967296 * slots < 18446744073709551616
 product-fits x slots h k = omega (arith, mul-lt-mul-of-pos-right {m = x % 4294967296} {n = 4294967296} (mod-lt x (omega arith)) h)
 
-slot-by-below : (slots x : ℕ) → 0 < slots → slotBy slots x < slots
+pub slot-by-below : (slots x : ℕ) → 0 < slots → slotBy slots x < slots
 unfolding slotBy
 slot-by-below slots x h = scaled (x % 4294967296 * 2654435761) slots h
 
@@ -43,6 +44,12 @@ pub noted-again : (first second w notes n : List ℕ) (k : ℕ) → getD notes (
     → getD notes (5 * k + 2) 0 ≡ getD w 3 0 → n ≡ span first second (getD w 1 0) (getD w 2 0) (getD w 3 0) → true ≡ same (noteName first second notes k) n
 unfolding noteName
 noted-again first second w notes n k a b c e = rw (a, b, c, e) (sym (same-refl _))
+
+-- a guess that its note confirms
+pub recalled : (first second w notes : List ℕ) (i : ℕ) → Recalled w notes (Look.At i)
+    → LookSays first second notes (span first second (getD w 1 0) (getD w 2 0) (getD w 3 0)) (Look.At i)
+unfolding noteName
+recalled first second w notes i r = (r .0, r .1, rw (r .2, r .3, r .4), r .5)
 
 module _ (first second notes heads n : List ℕ) where
   abbrev slots : ℕ

@@ -1,21 +1,61 @@
 -- A row's value by its type's shape: what is wrong with it, and its bytes.
+use mathlib.Core.Bool.{true, false}
 use mathlib.Core.List.{List, [], _++_}
 use mathlib.Core.Path.{_≡_, refl, ap, _∙_}
-use Prim.Native.Nat.{ℕ, _+_}
+use Prim.Native.Nat.{ℕ, _+_, _≤_, _<_}
 use native.Mathlib.Omega.{arith}
-use lib.ListN.{length, getD}
-use Rattle.event.specs.Span.{span}
+use borrow.Author.Tests.{lt-ltb, le-ltb, lt-leb, le-leb}
+use lib.ListN.{length, getD, take, drop, length-drop}
+use lib.Seq.{length-take-le}
+use Rattle.wire.specs.Refusal.{valueTooLong, invalidUtf8}
+use Rattle.utf8.specs.Utf8.{octets, wellFormed}
+use Rattle.event.specs.Span.{part, span}
 use Rattle.event.specs.Row as Row
 use Rattle.event.specs.Row.{Row, shape, valueAt, rowAt}
 use Rattle.event.specs.declared.Shape.{Shape}
 use Rattle.event.specs.declared.Shape.the-variants as Shape
 use Rattle.writer_spec.specs.Encode.{be16, be32, sized, valueBytes}
 use Rattle.writer_spec.specs.Faults.{blobFault, stringFault, valueFault}
-use Rattle.writer.specs.Answers.{Measure, takes, measured}
+use Rattle.writer.specs.Answers.{Measure, takes, stops, measured}
 
 pub sized-length : (s : List ℕ) → length (sized s) ≡ 2 + length s
 unfolding sized be16
 sized-length s = omega arith
+
+-- ---- a string, by its length and its bytes
+
+pub string-none : takes 2 ≡ measured (stringFault []) (2 + length {A = ℕ} [])
+unfolding stringFault wellFormed octets
+string-none = refl
+
+module _ (s : List ℕ) (n : ℕ) (e : length s ≡ n) where
+  pub string-long : 65535 < n → stops valueTooLong n ≡ measured (stringFault s) (2 + length s)
+  unfolding stringFault
+  string-long h = rw (e, lt-ltb 65535 n h)
+
+  pub string-sound : n ≤ 65535 → wellFormed s ≡ true → takes (2 + n) ≡ measured (stringFault s) (2 + length s)
+  unfolding stringFault
+  string-sound h t = rw (e, le-ltb 65535 n h, t)
+
+  pub string-broken : n ≤ 65535 → wellFormed s ≡ false → stops invalidUtf8 0 ≡ measured (stringFault s) (2 + length s)
+  unfolding stringFault
+  string-broken h t = rw (e, le-ltb 65535 n h, t)
+
+-- a part that a store has, and one that it has not
+module _ (store : List ℕ) (start len : ℕ) where
+  pub part-outside : length store < start + len → part store start len ≡ []
+  unfolding part
+  part-outside h = rw (lt-leb (start + len) (length store) h)
+
+  module _ (h : start + len ≤ length store) where
+    pub part-inside : part store start len ≡ take len (drop start store)
+    unfolding part
+    part-inside = rw (le-leb (start + len) (length store) h)
+
+    pub part-length : length (part store start len) ≡ len
+    part-length = ap length part-inside ∙ length-take-le len (drop start store) (omega (arith, length-drop start store))
+
+-- ---- by its type's shape
 
 module _ (first second w : List ℕ) where
   abbrev pub row : Row

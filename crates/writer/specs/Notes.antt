@@ -75,6 +75,13 @@ module _ (first second : List ℕ) where
     pub distinct : (j k : ℕ) → j < count notes → k < count notes → noteName notes j ≡ noteName notes k → j ≡ k
     pub complete : (n : List ℕ) → Unnoted notes n → find pool n ≡ find pool₀ n
 
+-- a note of the very span that a row's name has, and the index that it gives
+abbrev pub Recalled : List ℕ → List ℕ → Look → Type 0
+Recalled w notes (Look.At i) =
+    (k : ℕ) × (k < length notes / 5) × (getD notes (5 * k) 0 ≡ getD w 1 0) × (getD notes (5 * k + 1) 0 ≡ getD w 2 0)
+    × (getD notes (5 * k + 2) 0 ≡ getD w 3 0) × (getD notes (5 * k + 3) 0 ≡ i)
+Recalled w notes Look.Nowhere = Unit {0}
+
 -- no note yet
 abbrev pub Fresh : List ℕ → Type 0
 Fresh heads = (slot : ℕ) → getD heads slot 0 ≡ 0

@@ -8,16 +8,16 @@ ghost use mathlib.Core.Bool.{cond, true, false};
 ghost use mathlib.Core.List.{[], _∷_};
 ghost use mathlib.Core.Path.{_≡_};
 ghost use Prim.Native.Nat.{_+_, _*_, _/_, _%_, _≤_, _<_};
-ghost use lib.ListN.{length, getD, set, take};
+ghost use lib.ListN.{length, getD, set, take, drop};
 ghost use lib.Seq.{sets};
-ghost use Rattle.event.specs.Span.{span, same};
+ghost use Rattle.event.specs.Span.{part, span, valueIn, same};
 ghost use Rattle.event.specs.Row.{shape, rowAt};
 ghost use Rattle.event.specs.Words.{rowsForm, listForms};
 ghost use Rattle.writer_spec.specs.Encode.{be16, be32, sized, valueBytes, find};
 ghost use Rattle.writer_spec.specs.Faults.{stringFault, blobFault, valueFault};
 ghost use Rattle.writer_spec.specs.Writer.{sizesBad, stateBad, poolAt, meetsBad, rowsIn, create, append, write, writeEvent, writeEvents};
 ghost use Rattle.writer.specs.Answers.{lentOf, stateOf, leftOf, formsBy, faultOf, foundOf, searched, sizeOf, measured, placedBy, nameFoundOf, knownOf};
-ghost use Rattle.writer.specs.Notes.{slotBy, slotOf, noteName, Linked, Unnoted, LookSays, Fresh};
+ghost use Rattle.writer.specs.Notes.{slotBy, slotOf, noteName, Linked, Unnoted, LookSays, Recalled, Fresh};
 ghost use Rattle.writer.specs.Passes.{nameRefusal, roomOf, capped, endsAt, Roomy, Slots, Enough, Kept, NameMeasured, RowNameMeasured, RowMeasured, MeasureSays, Ready, KnownSays, namedBy, rowBy, tokenIn, joinsBy, pairsBy};
 
 // ---- what a call lends
@@ -134,6 +134,40 @@ fn size_unless(fault: Fault, size: usize) -> Size
     }
 }
 
+// A part of a store, as a string. It is checked where it stands, which is quicker than a slice of its own.
+fn part_size(store: &[u8], start: usize, len: usize) -> Size
+    requires { ⌜ (start < 4294967296) × (len < 4294967296) ⌝ }
+    ensures { λ r. ⌜ sizeOf r ≡ measured (stringFault (part (now (store .entry)) start len)) (2 + length (part (now (store .entry)) start len)) ⌝ }
+{
+    if store.len() < start + len {
+        return Size::Takes(2);
+    }
+    if 65_535 < len {
+        return Size::Refused(Refusal {
+            number: Refusal::VALUE_TOO_LONG,
+            detail: len as u32,
+        });
+    }
+    if utf8::is_utf8_part(store, start, len) {
+        return Size::Takes(2 + len);
+    }
+    Size::Refused(Refusal::new(Refusal::INVALID_UTF8))
+}
+
+// The value's span, as a string.
+fn string_size<'a>(first: &'a [u8], second: &'a [u8], w: &[u32]) -> Size
+    requires { ⌜ 8 ≤ length (now w) ⌝ }
+    ensures { λ r. ⌜ sizeOf r ≡ measured (stringFault (valueIn (now (first .entry)) (now (second .entry)) (now (w .entry)))) (2 + length (valueIn (now (first .entry)) (now (second .entry)) (now (w .entry)))) ⌝ }
+{
+    if w[5] == 0 {
+        return part_size(first, w[6] as usize, w[7] as usize);
+    }
+    if w[5] == 1 {
+        return part_size(second, w[6] as usize, w[7] as usize);
+    }
+    Size::Takes(2)
+}
+
 // The value of the row that the first eight words say.
 fn value_size<'a>(first: &'a [u8], second: &'a [u8], w: &[u32]) -> Size
     requires { ⌜ 8 ≤ length (now w) ⌝ }
@@ -141,10 +175,7 @@ fn value_size<'a>(first: &'a [u8], second: &'a [u8], w: &[u32]) -> Size
 {
     match event::shape_of(w[4]) {
         Shape::Nothing => Size::Takes(0),
-        Shape::String => {
-            let s = value_in(first, second, w);
-            size_unless(string_fault(s), 2 + s.len())
-        }
+        Shape::String => string_size(first, second, w),
         Shape::Interned => Size::Takes(0),
         Shape::Blob => {
             let s = value_in(first, second, w);
@@ -291,6 +322,38 @@ fn note(w: &[u32], index: u32, notes: &mut [u32], used: usize, heads: &mut [u32]
     heads[slot] = (used / 5 + 1) as u32;
 }
 
+// Most names come again with the span that they were noted by. `seen` guesses the note by where a span starts, and the note
+// itself says whether the guess is right, so that nothing hangs on what `seen` holds.
+fn recall(w: &[u32], notes: &[u32], seen: &[u32]) -> Look
+    requires { ⌜ 8 ≤ length (now w) ⌝ }
+    requires { ⌜ Slots (length (now seen)) ⌝ }
+    ensures { λ r. ⌜ Recalled (now (w .entry)) (now (notes .entry)) r ⌝ }
+{
+    let start = w[2];
+    let k = seen[slot_by(start as u64, seen.len())] as usize;
+    if notes.len() < 5 * k + 5 {
+        return Look::Nowhere;
+    }
+    if notes[5 * k + 1] == start {
+        if notes[5 * k + 2] == w[3] {
+            if notes[5 * k] == w[1] {
+                return Look::At(notes[5 * k + 3]);
+            }
+        }
+    }
+    Look::Nowhere
+}
+
+// Of the notes whose spans start at one place, or share its slot, the first is guessed.
+fn remember(start: u32, k: u32, seen: &mut [u32])
+    requires { ⌜ Slots (length (now seen)) ⌝ }
+{
+    let place = slot_by(start as u64, seen.len());
+    if seen[place] == 0 {
+        seen[place] = k;
+    }
+}
+
 // ---- measuring
 
 pub enum NameFound {
@@ -426,6 +489,56 @@ fn name_size<'a>(
     }
 }
 
+// The same, by a guess where there is one.
+fn quick_name_size<'a>(
+    first: &'a [u8],
+    second: &'a [u8],
+    w: &[u32],
+    output: &[u8],
+    pool: &[u32],
+    kept: usize,
+    names: usize,
+    notes: &mut [u32],
+    used: usize,
+    heads: &mut [u32],
+    seen: &mut [u32],
+) -> NameSize
+    requires { ⌜ 8 ≤ length (now w) ⌝ }
+    requires { ⌜ 2 * kept ≤ length (now pool) ⌝ }
+    requires { ⌜ Roomy used (length (now notes)) ⌝ }
+    requires { ⌜ Slots (length (now heads)) × Slots (length (now seen)) ⌝ }
+    requires { ⌜ Kept (now first) (now second) (now output) (now pool) kept names (take used (now notes)) (now heads) ⌝ }
+    ensures { λ r. ⌜ RowNameMeasured (now (first .entry)) (now (second .entry)) (now (output .entry)) (now (pool .entry)) kept names (rowAt (now (first .entry)) (now (second .entry)) (now (w .entry))) used (now (notes .entry)) (now (heads .entry)) (now (notes .exit)) (now (heads .exit)) r ⌝ }
+{
+    if event::has_name(w[0]) {
+        if let Look::At(_) = recall(w, &notes[..used], seen) {
+            return NameSize::Takes {
+                size: 2,
+                names,
+                used,
+            };
+        }
+        remember(w[2], (used / 5) as u32, seen);
+        return name_size(
+            first,
+            second,
+            w,
+            output,
+            pool,
+            kept,
+            names,
+            notes,
+            used,
+            heads,
+        );
+    }
+    NameSize::Takes {
+        size: 0,
+        names,
+        used,
+    }
+}
+
 // What has been measured: the place in the output, the names in the pool, and the words of notes in use.
 pub struct Tally {
     pub at: usize,
@@ -461,18 +574,19 @@ fn measure_row<'a>(
     tally: Tally,
     notes: &mut [u32],
     heads: &mut [u32],
+    seen: &mut [u32],
 ) -> RowSize
     requires { ⌜ 8 ≤ length (now w) ⌝ }
     requires { ⌜ (length (now output) ≤ 16_777_216) × (tally .at ≤ 16_777_217) ⌝ }
     requires { ⌜ 2 * kept ≤ length (now pool) ⌝ }
     requires { ⌜ Roomy (tally .used) (length (now notes)) ⌝ }
-    requires { ⌜ Slots (length (now heads)) ⌝ }
+    requires { ⌜ Slots (length (now heads)) × Slots (length (now seen)) ⌝ }
     requires { ⌜ Kept (now first) (now second) (now output) (now pool) kept (tally .names) (take (tally .used) (now notes)) (now heads) ⌝ }
     ensures { λ r. ⌜ RowMeasured (now (first .entry)) (now (second .entry)) (now (output .entry)) (now (pool .entry)) kept (rowAt (now (first .entry)) (now (second .entry)) (now (w .entry))) tally (now (notes .entry)) (now (heads .entry)) (now (notes .exit)) (now (heads .exit)) r ⌝ }
 {
     let before = tally.names;
     let noted = tally.used;
-    match name_size(
+    match quick_name_size(
         first,
         second,
         w,
@@ -483,6 +597,7 @@ fn measure_row<'a>(
         notes,
         noted,
         heads,
+        seen,
     ) {
         NameSize::Refused(r) => RowSize::Refused(r),
         NameSize::Takes { size, names, used } => match value_size(first, second, w) {
@@ -535,12 +650,14 @@ fn measure<'a>(
     writer: Writer,
     notes: &mut [u32],
     heads: &mut [u32],
+    seen: &mut [u32],
 ) -> Measured
     requires { ⌜ length (now rows) % 8 ≡ 0 ⌝ }
     requires { ⌜ (length (now output) ≤ 16_777_216) × (writer .written ≤ length (now output)) ⌝ }
     requires { ⌜ (2 * writer .names ≤ length (now pool)) × (writer .names ≤ 65_535) ⌝ }
     requires { ⌜ Enough (length (now rows)) (length (now notes)) ⌝ }
     requires { ⌜ Slots (length (now heads)) × Fresh (now heads) ⌝ }
+    requires { ⌜ Slots (length (now seen)) ⌝ }
     ensures { λ r. ⌜ MeasureSays (now (first .entry)) (now (second .entry)) (now (output .entry)) (now (pool .entry)) (writer .names) (writer .written) (rowsIn (now (first .entry)) (now (second .entry)) (now (rows .entry))) (now (notes .exit)) (now (heads .exit)) r ⌝ }
 {
     let kept = writer.names;
@@ -561,6 +678,7 @@ fn measure<'a>(
             tally,
             notes,
             heads,
+            seen,
         ) {
             RowSize::Refused(r) => {
                 return Measured::Refused(r);
@@ -615,6 +733,32 @@ fn known_name<'a>(
     Known::New
 }
 
+// The same, by a guess where there is one.
+fn quick_known_name<'a>(
+    first: &'a [u8],
+    second: &'a [u8],
+    w: &[u32],
+    names: usize,
+    notes: &[u32],
+    heads: &[u32],
+    seen: &[u32],
+) -> Known
+    requires { ⌜ 8 ≤ length (now w) ⌝ }
+    requires { ⌜ Slots (length (now heads)) × Slots (length (now seen)) ⌝ }
+    requires { ⌜ Linked (now first) (now second) (now notes) (now heads) ⌝ }
+    ensures { λ r. ⌜ KnownSays (now (first .entry)) (now (second .entry)) (now (notes .entry)) (now (heads .entry)) names (rowAt (now (first .entry)) (now (second .entry)) (now (w .entry))) r ⌝ }
+{
+    if event::has_name(w[0]) {
+        if let Look::At(i) = recall(w, notes, seen) {
+            if (i as usize) < names {
+                return Known::At(i);
+            }
+            return Known::New;
+        }
+    }
+    known_name(first, second, w, names, notes, heads)
+}
+
 fn put_u16(output: &mut [u8], at: usize, n: usize)
     requires { ⌜ at + 2 ≤ length (now output) ⌝ }
     ensures { λ _. ⌜ now (output .exit) ≡ sets (now (output .entry)) at (be16 n) ⌝ }
@@ -633,7 +777,7 @@ fn put_u32(output: &mut [u8], at: usize, n: u32)
     output[at + 3] = (n % 256) as u8;
 }
 
-fn copy(to: &mut [u8], from: &[u8])
+fn copy_bytes(to: &mut [u8], from: &[u8])
     requires { ⌜ length (now to) ≡ length (now from) ⌝ }
     ensures { λ _. ⌜ now (to .exit) ≡ now (from .entry) ⌝ }
 {
@@ -642,6 +786,53 @@ fn copy(to: &mut [u8], from: &[u8])
         to[done] = from[done];
         done += 1;
     }
+}
+
+// As many bytes as a block has, from a place on. Read whole before it is written, a block of a known length is one word.
+fn copy_block(to: &mut [u8], from: &[u8], at: usize, block: &mut [u8])
+    requires { ⌜ length (now to) ≡ length (now from) ⌝ }
+    requires { ⌜ at + length (now block) ≤ length (now from) ⌝ }
+    ensures { λ _. ⌜ now (to .exit) ≡ sets (now (to .entry)) at (take (length (now (block .entry))) (drop at (now (from .entry)))) ⌝ }
+{
+    let end = at + block.len();
+    copy_bytes(block, &from[at..end]);
+    copy_bytes(&mut to[at..end], block);
+}
+
+// Block by block; the last may overlap the one before it.
+fn copy_blocks(to: &mut [u8], from: &[u8], block: &mut [u8])
+    requires { ⌜ length (now to) ≡ length (now from) ⌝ }
+    requires { ⌜ (0 < length (now block)) × (length (now block) ≤ length (now from)) ⌝ }
+    ensures { λ _. ⌜ now (to .exit) ≡ now (from .entry) ⌝ }
+{
+    let size = block.len();
+    let last = from.len() - size;
+    let mut at = 0;
+    while at < last {
+        copy_block(to, from, at, block);
+        at += size;
+    }
+    copy_block(to, from, last, block);
+}
+
+fn copy(to: &mut [u8], from: &[u8])
+    requires { ⌜ length (now to) ≡ length (now from) ⌝ }
+    ensures { λ _. ⌜ now (to .exit) ≡ now (from .entry) ⌝ }
+{
+    let len = from.len();
+    if len < 4 {
+        copy_bytes(to, from);
+        return;
+    }
+    if len < 8 {
+        copy_blocks(to, from, &mut [0u8; 4]);
+        return;
+    }
+    if len < 16 {
+        copy_blocks(to, from, &mut [0u8; 8]);
+        return;
+    }
+    copy_blocks(to, from, &mut [0u8; 16]);
 }
 
 // A length and the bytes; the place after them.
@@ -792,11 +983,12 @@ fn write_rows<'a>(
     writer: Writer,
     notes: &[u32],
     heads: &[u32],
+    seen: &[u32],
 ) -> Writer
     requires { ⌜ length (now rows) % 8 ≡ 0 ⌝ }
     requires { ⌜ rowsForm (now first) (now second) false (length (now rows) / 8) (now rows) ≡ true ⌝ }
     requires { ⌜ length (now output) ≤ 16_777_216 ⌝ }
-    requires { ⌜ Slots (length (now heads)) ⌝ }
+    requires { ⌜ Slots (length (now heads)) × Slots (length (now seen)) ⌝ }
     requires { ⌜ Ready (now first) (now second) (now output) (now pool) (writer .names) (writer .written) (rowsIn (now first) (now second) (now rows)) (now notes) (now heads) ⌝ }
     ensures { λ r. ⌜ leftOf (Written.Wrote r) (now (output .exit)) (now (pool .exit)) ≡ append (stateOf writer) (lentOf (now (output .entry)) (now (pool .entry))) (rowsIn (now (first .entry)) (now (second .entry)) (now (rows .entry))) ⌝ }
 {
@@ -804,7 +996,7 @@ fn write_rows<'a>(
     let mut names = writer.names;
     let mut word = 0;
     while word < rows.len() {
-        let known = known_name(first, second, &rows[word..], names, notes, heads);
+        let known = quick_known_name(first, second, &rows[word..], names, notes, heads, seen);
         let next = write_row(first, second, &rows[word..], output, at, known);
         names = keep_name(first, second, &rows[word..], pool, names, at, known);
         at = next;
@@ -823,15 +1015,27 @@ fn write_noted<'a>(
     pool: &mut [u32],
     notes: &mut [u32],
     heads: &mut [u32],
+    seen: &mut [u32],
 ) -> Written
     requires { ⌜ listForms (now first) (now second) (now rows) ≡ true ⌝ }
     requires { ⌜ sizesBad (lentOf (now output) (now pool)) ≡ false ⌝ }
     requires { ⌜ stateBad (stateOf writer) (lentOf (now output) (now pool)) ≡ false ⌝ }
     requires { ⌜ Enough (length (now rows)) (length (now notes)) ⌝ }
     requires { ⌜ Slots (length (now heads)) × Fresh (now heads) ⌝ }
+    requires { ⌜ Slots (length (now seen)) ⌝ }
     ensures { λ r. ⌜ leftOf r (now (output .exit)) (now (pool .exit)) ≡ write true (stateOf writer) (lentOf (now (output .entry)) (now (pool .entry))) (rowsIn (now (first .entry)) (now (second .entry)) (now (rows .entry))) ⌝ }
 {
-    match measure(first, second, rows, output, pool, writer, notes, heads) {
+    match measure(
+        first,
+        second,
+        rows,
+        output,
+        pool,
+        writer,
+        notes,
+        heads,
+        seen,
+    ) {
         Measured::Refused(r) => Written::Refused(r),
         Measured::Used(used) => Written::Wrote(write_rows(
             first,
@@ -842,6 +1046,7 @@ fn write_noted<'a>(
             writer,
             &notes[..used],
             heads,
+            seen,
         )),
     }
 }
@@ -863,6 +1068,7 @@ fn write_few<'a>(
 {
     let mut notes = [0u32; 320];
     let mut heads = [0u32; 64];
+    let mut seen = [0u32; 64];
     write_noted(
         writer,
         first,
@@ -872,6 +1078,7 @@ fn write_few<'a>(
         pool,
         &mut notes,
         &mut heads,
+        &mut seen,
     )
 }
 
@@ -892,6 +1099,7 @@ fn write_more<'a>(
 {
     let mut notes = [0u32; 20_480];
     let mut heads = [0u32; 4_096];
+    let mut seen = [0u32; 4_096];
     write_noted(
         writer,
         first,
@@ -901,6 +1109,7 @@ fn write_more<'a>(
         pool,
         &mut notes,
         &mut heads,
+        &mut seen,
     )
 }
 
@@ -920,6 +1129,7 @@ fn write_many<'a>(
 {
     let mut notes = [0u32; 327_675];
     let mut heads = [0u32; 16_384];
+    let mut seen = [0u32; 32_768];
     write_noted(
         writer,
         first,
@@ -929,6 +1139,7 @@ fn write_many<'a>(
         pool,
         &mut notes,
         &mut heads,
+        &mut seen,
     )
 }
 

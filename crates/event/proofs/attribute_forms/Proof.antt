@@ -8,11 +8,7 @@ value-forms-requires c κs = search needs
 
 returns : tie.Need-returns
 unfolding attributeForms
-returns c = rw (c .before .if1 .taken) (c .value-forms .ensures)
-
-returns-2 : tie.Need-returns-2
-unfolding attributeForms
-returns-2 c = rw (c .if1 .left)
+returns c = rw (c .value-forms .ensures)
 
 pub attribute-forms-spec : {M : Type 1} → statement M
-attribute-forms-spec = tie.close (tie.spec value-forms-requires returns returns-2)
+attribute-forms-spec = tie.close (tie.spec value-forms-requires returns)

@@ -19,32 +19,8 @@ enum-told c = search needs
 enum-told-2 : tie.Need-enum-told-2
 enum-told-2 c = search needs
 
-shared-slice-read-span : tie.Need-shared-slice-read-span
-shared-slice-read-span c = search needs
-
-shared-slice-read-span-2 : tie.Need-shared-slice-read-span-2
-shared-slice-read-span-2 c = search needs
-
-shared-slice-read-span-3 : tie.Need-shared-slice-read-span-3
-shared-slice-read-span-3 c = search needs
-
-span-requires : tie.Need-span-requires
-span-requires c κs = search needs
-
-shared-slice-read-span-4 : tie.Need-shared-slice-read-span-4
-shared-slice-read-span-4 c = search needs
-
-shared-slice-read-span-5 : tie.Need-shared-slice-read-span-5
-shared-slice-read-span-5 c = search needs
-
-shared-slice-read-span-6 : tie.Need-shared-slice-read-span-6
-shared-slice-read-span-6 c = search needs
-
-span-requires-2 : tie.Need-span-requires-2
-span-requires-2 c κs = search needs
-
-same-bytes-requires : tie.Need-same-bytes-requires
-same-bytes-requires c κs = search needs
+same-spans-requires : tie.Need-same-spans-requires
+same-spans-requires c κs = search needs
 
 enum-told-3 : tie.Need-enum-told-3
 enum-told-3 c = search needs
@@ -52,32 +28,8 @@ enum-told-3 c = search needs
 enum-told-4 : tie.Need-enum-told-4
 enum-told-4 c = search needs
 
-shared-slice-read-span-7 : tie.Need-shared-slice-read-span-7
-shared-slice-read-span-7 c = search needs
-
-shared-slice-read-span-8 : tie.Need-shared-slice-read-span-8
-shared-slice-read-span-8 c = search needs
-
-shared-slice-read-span-9 : tie.Need-shared-slice-read-span-9
-shared-slice-read-span-9 c = search needs
-
-span-requires-3 : tie.Need-span-requires-3
-span-requires-3 c κs = search needs
-
-shared-slice-read-span-10 : tie.Need-shared-slice-read-span-10
-shared-slice-read-span-10 c = search needs
-
-shared-slice-read-span-11 : tie.Need-shared-slice-read-span-11
-shared-slice-read-span-11 c = search needs
-
-shared-slice-read-span-12 : tie.Need-shared-slice-read-span-12
-shared-slice-read-span-12 c = search needs
-
-span-requires-4 : tie.Need-span-requires-4
-span-requires-4 c κs = search needs
-
-same-bytes-requires-2 : tie.Need-same-bytes-requires-2
-same-bytes-requires-2 c κs = search needs
+same-spans-requires-2 : tie.Need-same-spans-requires-2
+same-spans-requires-2 c κs = search needs
 
 enum-told-5 : tie.Need-enum-told-5
 enum-told-5 c = search needs
@@ -123,9 +75,9 @@ returns-2 c =
 returns-3 : tie.Need-returns-3
 unfolding valueAt sameValue
 returns-3 c =
-    let a = c .before .before .before .before .before .before .before .before .before .before .before .before .before .before .before .before .before .before .before .args in
-    let e = sym (c .before .before .before .before .before .before .before .before .before .before .before .shape-of .ensures) ∙ c .before .before .before .before .before .before .before .before .before .enum-told2 .given .1 in
-    sym (values (a .first .now) (a .second .now) (a .w .now) (a .other-first .now) (a .other-second .now) (a .v .now) Shape.String (c .before .before .before .before .before .before .before .before .before .before .before .before .before .before .before .before .before .before .before .pre .2) e ∙ sym (c .same-bytes .ensures ∙ rw (c .before .before .before .before .before .span .ensures .0, c .before .span2 .ensures .0)))
+    let a = c .before .before .before .before .before .before .before .before .before .before .before .args in
+    let e = sym (c .before .before .before .shape-of .ensures) ∙ c .before .enum-told2 .given .1 in
+    sym (values (a .first .now) (a .second .now) (a .w .now) (a .other-first .now) (a .other-second .now) (a .v .now) Shape.String (c .before .before .before .before .before .before .before .before .before .before .before .pre .2) e ∙ sym (c .same-spans .ensures))
 
 returns-4 : tie.Need-returns-4
 unfolding valueAt sameValue
@@ -137,9 +89,9 @@ returns-4 c =
 returns-5 : tie.Need-returns-5
 unfolding valueAt sameValue
 returns-5 c =
-    let a = c .before .before .before .before .before .before .before .before .before .before .before .before .before .before .before .before .before .before .before .args in
-    let e = sym (c .before .before .before .before .before .before .before .before .before .before .before .shape-of .ensures) ∙ c .before .before .before .before .before .before .before .before .before .enum-told4 .given .1 in
-    sym (values (a .first .now) (a .second .now) (a .w .now) (a .other-first .now) (a .other-second .now) (a .v .now) Shape.Blob (c .before .before .before .before .before .before .before .before .before .before .before .before .before .before .before .before .before .before .before .pre .2) e ∙ sym (c .same-bytes2 .ensures ∙ rw (c .before .before .before .before .before .span3 .ensures .0, c .before .span4 .ensures .0)))
+    let a = c .before .before .before .before .before .before .before .before .before .before .before .args in
+    let e = sym (c .before .before .before .shape-of .ensures) ∙ c .before .enum-told4 .given .1 in
+    sym (values (a .first .now) (a .second .now) (a .w .now) (a .other-first .now) (a .other-second .now) (a .v .now) Shape.Blob (c .before .before .before .before .before .before .before .before .before .before .before .pre .2) e ∙ sym (c .same-spans2 .ensures))
 
 returns-6 : tie.Need-returns-6
 unfolding valueAt sameValue
@@ -170,26 +122,10 @@ same-value-spec =
     shape-of-requires
     enum-told
     enum-told-2
-    shared-slice-read-span
-    shared-slice-read-span-2
-    shared-slice-read-span-3
-    span-requires
-    shared-slice-read-span-4
-    shared-slice-read-span-5
-    shared-slice-read-span-6
-    span-requires-2
-    same-bytes-requires
+    same-spans-requires
     enum-told-3
     enum-told-4
-    shared-slice-read-span-7
-    shared-slice-read-span-8
-    shared-slice-read-span-9
-    span-requires-3
-    shared-slice-read-span-10
-    shared-slice-read-span-11
-    shared-slice-read-span-12
-    span-requires-4
-    same-bytes-requires-2
+    same-spans-requires-2
     enum-told-5
     shared-slice-read-result
     shared-slice-read-result-2

@@ -7,8 +7,8 @@ use borrow.Author.Needs.{needs}
 use Rattle.writer.proofs.measure_row.Statement.{statement}
 use Rattle.writer.proofs.measure_row.Tie as tie
 
-name-size-requires : tie.Need-name-size-requires
-name-size-requires c κs = search needs
+quick-name-size-requires : tie.Need-quick-name-size-requires
+quick-name-size-requires c κs = search needs
 
 enum-known-r : tie.Need-enum-known-r
 enum-known-r c = search needs
@@ -26,37 +26,37 @@ enum-known-more : tie.Need-enum-known-more
 enum-known-more c = search needs
 
 add-capped : tie.Need-add-capped
-add-capped c = let a = c .before .before .before .before .before .before .before .before .before .before .before .before .before .before .before .before .before .before .before .before .before .before .args in
-    let p = c .before .before .before .before .before .before .before .before .before .before .before .before .before .before .before .before .before .before .before .before .before .before .pre in
+add-capped c = let a = c .before .before .before .before .before .before .before .before .before .before .before .before .before .before .before .before .before .before .before .before .before .before .before .before .before .before .args in
+    let p = c .before .before .before .before .before .before .before .before .before .before .before .before .before .before .before .before .before .before .before .before .before .before .before .before .before .before .pre in
     let f = a .first .now in
     let s = a .second .now in
     let w = a .w .now in
     omega (arith, p .1 .0 .1)
 
 add-capped-2 : tie.Need-add-capped-2
-add-capped-2 c = let a = c .before .before .before .before .before .before .before .before .before .before .before .before .before .before .before .before .before .before .before .before .before .before .args in
-    let p = c .before .before .before .before .before .before .before .before .before .before .before .before .before .before .before .before .before .before .before .before .before .before .pre in
+add-capped-2 c = let a = c .before .before .before .before .before .before .before .before .before .before .before .before .before .before .before .before .before .before .before .before .before .before .before .before .before .before .args in
+    let p = c .before .before .before .before .before .before .before .before .before .before .before .before .before .before .before .before .before .before .before .before .before .before .before .before .before .before .pre in
     let f = a .first .now in
     let s = a .second .now in
     let w = a .w .now in
     let k = p .1 .1 .1 .1 .1 in
-    let named = rw (c .before .before .before .before .before .before .size .given .1) at (c .before .before .before .before .before .before .before .before .before .before .before .before .name-size .ensures (k .0) (k .1) (k .3)) in
+    let named = rw (c .before .before .before .before .before .before .size .given .1) at (c .before .before .before .before .before .before .before .before .before .before .before .before .before .before .quick-name-size .ensures (k .0) (k .1) (k .3)) in
     let few = size-small f s w (a .output .now) (a .pool .now) (a .kept) (k .0) _ _ _ _ _ (named .1) in
-    omega (arith, p .1 .0 .1, few, c .before .before .before .before .before .before .before .before .before .before .before .before .before .before .before .before .before .before .before .shared-slice-known3 .given 3)
+    omega (arith, p .1 .0 .1, few, c .before .before .before .before .before .before .before .before .before .before .before .before .before .before .before .before .before .before .before .before .before .before .before .shared-slice-known3 .given 3)
 
 add-capped-3 : tie.Need-add-capped-3
-add-capped-3 c = let a = c .before .before .before .before .before .before .before .before .before .before .before .before .before .before .before .before .before .before .before .before .before .before .args in
-    let p = c .before .before .before .before .before .before .before .before .before .before .before .before .before .before .before .before .before .before .before .before .before .before .pre in
+add-capped-3 c = let a = c .before .before .before .before .before .before .before .before .before .before .before .before .before .before .before .before .before .before .before .before .before .before .before .before .before .before .args in
+    let p = c .before .before .before .before .before .before .before .before .before .before .before .before .before .before .before .before .before .before .before .before .before .before .before .before .before .before .pre in
     let f = a .first .now in
     let s = a .second .now in
     let w = a .w .now in
     let k = p .1 .1 .1 .1 .1 in
-    let named = rw (c .before .before .before .before .before .before .size .given .1) at (c .before .before .before .before .before .before .before .before .before .before .before .before .name-size .ensures (k .0) (k .1) (k .3)) in
+    let named = rw (c .before .before .before .before .before .before .size .given .1) at (c .before .before .before .before .before .before .before .before .before .before .before .before .before .before .quick-name-size .ensures (k .0) (k .1) (k .3)) in
     let few = size-small f s w (a .output .now) (a .pool .now) (a .kept) (k .0) _ _ _ _ _ (named .1) in
-    omega (arith, p .1 .0 .1, few, more-small f s w _ (sym (ap sizeOf (c .before .before .more .given .1)) ∙ c .before .before .before .before .value-size .ensures), c .before .before .before .before .before .before .before .before .before .before .before .before .before .before .before .before .before .before .before .shared-slice-known3 .given 3, c .before .before .before .before .before .before .before .before .before .before .before .before .before .before .before .before .before .before .before .shared-slice-known3 .given 7)
+    omega (arith, p .1 .0 .1, few, more-small f s w _ (sym (ap sizeOf (c .before .before .more .given .1)) ∙ c .before .before .before .before .value-size .ensures), c .before .before .before .before .before .before .before .before .before .before .before .before .before .before .before .before .before .before .before .before .before .before .before .shared-slice-known3 .given 3, c .before .before .before .before .before .before .before .before .before .before .before .before .before .before .before .before .before .before .before .before .before .before .before .shared-slice-known3 .given 7)
 
 capped-requires : tie.Need-capped-requires
-capped-requires c κs = c .before .before .before .before .before .before .before .before .before .before .before .before .before .before .before .before .before .before .before .before .before .before .pre .1 .0 .0
+capped-requires c κs = c .before .before .before .before .before .before .before .before .before .before .before .before .before .before .before .before .before .before .before .before .before .before .before .before .before .before .pre .1 .0 .0
 
 same-length : tie.Need-same-length
 same-length c = search needs
@@ -64,29 +64,19 @@ same-length c = search needs
 same-length-2 : tie.Need-same-length-2
 same-length-2 c = search needs
 
-returns : tie.Need-returns
-returns c = let a = c .before .before .before .before .before .before .before .before .before .before .before .before .before .before .before .before .before .args in
-    let p = c .before .before .before .before .before .before .before .before .before .before .before .before .before .before .before .before .before .pre in
-    let f = a .first .now in
-    let s = a .second .now in
-    let w = a .w .now in
-    λ pool e t. name-stops f s (a .output .now) (a .pool .now) (a .kept) pool (rowAt f s w) _ _ (rw (c .before .r .given .1) at (c .before .before .before .before .before .before .before .name-size .ensures pool e t))
-
 same-length-3 : tie.Need-same-length-3
 same-length-3 c = search needs
 
-same-length-4 : tie.Need-same-length-4
-same-length-4 c = search needs
-
-returns-2 : tie.Need-returns-2
-returns-2 c = let a = c .before .before .before .before .before .before .before .before .before .before .before .before .before .before .before .before .before .before .before .before .before .args in
+returns : tie.Need-returns
+returns c = let a = c .before .before .before .before .before .before .before .before .before .before .before .before .before .before .before .before .before .before .before .before .before .args in
     let p = c .before .before .before .before .before .before .before .before .before .before .before .before .before .before .before .before .before .before .before .before .before .pre in
     let f = a .first .now in
     let s = a .second .now in
     let w = a .w .now in
-    λ pool e t.
-    let named = rw (c .before .before .before .before .before .size .given .1) at (c .before .before .before .before .before .before .before .before .before .before .before .name-size .ensures pool e t) in
-    value-stops f s (a .output .now) (a .pool .now) (a .kept) pool (rowAt f s w) _ _ _ _ _ (named .1) _ _ (sym (ap sizeOf (c .before .r2 .given .1)) ∙ c .before .before .before .value-size .ensures)
+    λ pool e t. name-stops f s (a .output .now) (a .pool .now) (a .kept) pool (rowAt f s w) _ _ (rw (c .before .r .given .1) at (c .before .before .before .before .before .before .before .before .before .quick-name-size .ensures pool e t))
+
+same-length-4 : tie.Need-same-length-4
+same-length-4 c = search needs
 
 same-length-5 : tie.Need-same-length-5
 same-length-5 c = search needs
@@ -94,21 +84,40 @@ same-length-5 c = search needs
 same-length-6 : tie.Need-same-length-6
 same-length-6 c = search needs
 
-returns-3 : tie.Need-returns-3
-returns-3 c = let a = c .before .before .before .before .before .before .before .before .before .before .before .before .before .before .before .before .before .before .before .before .before .before .before .args in
-    let p = c .before .before .before .before .before .before .before .before .before .before .before .before .before .before .before .before .before .before .before .before .before .before .before .pre in
+returns-2 : tie.Need-returns-2
+returns-2 c = let a = c .before .before .before .before .before .before .before .before .before .before .before .before .before .before .before .before .before .before .before .before .before .before .before .before .before .args in
+    let p = c .before .before .before .before .before .before .before .before .before .before .before .before .before .before .before .before .before .before .before .before .before .before .before .before .before .pre in
     let f = a .first .now in
     let s = a .second .now in
     let w = a .w .now in
     λ pool e t.
-    let named = rw (c .before .before .before .before .before .before .before .size .given .1) at (c .before .before .before .before .before .before .before .before .before .before .before .before .before .name-size .ensures pool e t) in
+    let named = rw (c .before .before .before .before .before .size .given .1) at (c .before .before .before .before .before .before .before .before .before .before .before .before .before .quick-name-size .ensures pool e t) in
+    value-stops f s (a .output .now) (a .pool .now) (a .kept) pool (rowAt f s w) _ _ _ _ _ (named .1) _ _ (sym (ap sizeOf (c .before .r2 .given .1)) ∙ c .before .before .before .value-size .ensures)
+
+same-length-7 : tie.Need-same-length-7
+same-length-7 c = search needs
+
+same-length-8 : tie.Need-same-length-8
+same-length-8 c = search needs
+
+same-length-9 : tie.Need-same-length-9
+same-length-9 c = search needs
+
+returns-3 : tie.Need-returns-3
+returns-3 c = let a = c .before .before .before .before .before .before .before .before .before .before .before .before .before .before .before .before .before .before .before .before .before .before .before .before .before .before .before .args in
+    let p = c .before .before .before .before .before .before .before .before .before .before .before .before .before .before .before .before .before .before .before .before .before .before .before .before .before .before .before .pre in
+    let f = a .first .now in
+    let s = a .second .now in
+    let w = a .w .now in
+    λ pool e t.
+    let named = rw (c .before .before .before .before .before .before .before .size .given .1) at (c .before .before .before .before .before .before .before .before .before .before .before .before .before .before .before .quick-name-size .ensures pool e t) in
     (named .0, row-takes f s (a .output .now) (a .pool .now) (a .kept) pool (rowAt f s w) _ _ _ _ _ (named .1) (a .tally .at) _ _ (sym (ap sizeOf (c .before .before .before .more .given .1)) ∙ c .before .before .before .before .before .value-size .ensures) (c .capped .ensures))
 
 pub measure-row-spec : {M : Type 1} → statement M
 measure-row-spec =
     tie.close
     (tie.spec
-    name-size-requires
+    quick-name-size-requires
     enum-known-r
     enum-known-size
     value-size-requires
@@ -120,10 +129,13 @@ measure-row-spec =
     capped-requires
     same-length
     same-length-2
-    returns
     same-length-3
+    returns
     same-length-4
-    returns-2
     same-length-5
     same-length-6
+    returns-2
+    same-length-7
+    same-length-8
+    same-length-9
     returns-3)

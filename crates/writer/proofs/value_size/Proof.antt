@@ -16,17 +16,8 @@ enum-told c = search needs
 enum-told-2 : tie.Need-enum-told-2
 enum-told-2 c = search needs
 
-value-in-requires : tie.Need-value-in-requires
-value-in-requires c κs = search needs
-
-string-fault-requires : tie.Need-string-fault-requires
-string-fault-requires c κs = c .value-in .ensures .1
-
-add-size-unless : tie.Need-add-size-unless
-add-size-unless c = search needs
-
-size-unless-requires : tie.Need-size-unless-requires
-size-unless-requires c κs = search needs
+string-size-requires : tie.Need-string-size-requires
+string-size-requires c κs = search needs
 
 enum-told-3 : tie.Need-enum-told-3
 enum-told-3 c = search needs
@@ -34,17 +25,17 @@ enum-told-3 c = search needs
 enum-told-4 : tie.Need-enum-told-4
 enum-told-4 c = search needs
 
-value-in-requires-2 : tie.Need-value-in-requires-2
-value-in-requires-2 c κs = search needs
+value-in-requires : tie.Need-value-in-requires
+value-in-requires c κs = search needs
 
 blob-fault-requires : tie.Need-blob-fault-requires
-blob-fault-requires c κs = c .value-in2 .ensures .1
+blob-fault-requires c κs = c .value-in .ensures .1
 
-add-size-unless-2 : tie.Need-add-size-unless-2
-add-size-unless-2 c = search needs
+add-size-unless : tie.Need-add-size-unless
+add-size-unless c = search needs
 
-size-unless-requires-2 : tie.Need-size-unless-requires-2
-size-unless-requires-2 c κs = search needs
+size-unless-requires : tie.Need-size-unless-requires
+size-unless-requires c κs = search needs
 
 enum-told-5 : tie.Need-enum-told-5
 enum-told-5 c = search needs
@@ -59,13 +50,13 @@ returns : tie.Need-returns
 returns c = size-nothing (c .before .before .before .before .before .before .before .args .first .now) (c .before .before .before .before .before .before .before .args .second .now) (c .before .before .before .before .before .before .before .args .w .now) (sym (c .before .before .shape-of .ensures) ∙ c .enum-told .given .1)
 
 returns-2 : tie.Need-returns-2
-returns-2 c = c .size-unless .ensures ∙ rw (c .before .string-fault .ensures, c .before .before .value-in .ensures .0) (size-string (c .before .before .before .before .before .before .before .before .before .before .args .first .now) (c .before .before .before .before .before .before .before .before .before .before .args .second .now) (c .before .before .before .before .before .before .before .before .before .before .args .w .now) (sym (c .before .before .before .before .before .shape-of .ensures) ∙ c .before .before .before .enum-told2 .given .1))
+returns-2 c = c .string-size .ensures ∙ size-string (c .before .before .before .before .before .before .before .before .args .first .now) (c .before .before .before .before .before .before .before .before .args .second .now) (c .before .before .before .before .before .before .before .before .args .w .now) (sym (c .before .before .before .shape-of .ensures) ∙ c .before .enum-told2 .given .1)
 
 returns-3 : tie.Need-returns-3
 returns-3 c = size-interned (c .before .before .before .before .before .before .before .args .first .now) (c .before .before .before .before .before .before .before .args .second .now) (c .before .before .before .before .before .before .before .args .w .now) (sym (c .before .before .shape-of .ensures) ∙ c .enum-told3 .given .1)
 
 returns-4 : tie.Need-returns-4
-returns-4 c = c .size-unless2 .ensures ∙ rw (c .before .blob-fault .ensures, c .before .before .value-in2 .ensures .0) (size-blob (c .before .before .before .before .before .before .before .before .before .before .args .first .now) (c .before .before .before .before .before .before .before .before .before .before .args .second .now) (c .before .before .before .before .before .before .before .before .before .before .args .w .now) (sym (c .before .before .before .before .before .shape-of .ensures) ∙ c .before .before .before .enum-told4 .given .1))
+returns-4 c = c .size-unless .ensures ∙ rw (c .before .blob-fault .ensures, c .before .before .value-in .ensures .0) (size-blob (c .before .before .before .before .before .before .before .before .before .before .args .first .now) (c .before .before .before .before .before .before .before .before .before .before .args .second .now) (c .before .before .before .before .before .before .before .before .before .before .args .w .now) (sym (c .before .before .before .before .before .shape-of .ensures) ∙ c .before .before .before .enum-told4 .given .1))
 
 returns-5 : tie.Need-returns-5
 returns-5 c = size-word (c .before .before .before .before .before .before .before .args .first .now) (c .before .before .before .before .before .before .before .args .second .now) (c .before .before .before .before .before .before .before .args .w .now) (sym (c .before .before .shape-of .ensures) ∙ c .enum-told5 .given .1)
@@ -84,16 +75,13 @@ value-size-spec =
     shape-of-requires
     enum-told
     enum-told-2
-    value-in-requires
-    string-fault-requires
-    add-size-unless
-    size-unless-requires
+    string-size-requires
     enum-told-3
     enum-told-4
-    value-in-requires-2
+    value-in-requires
     blob-fault-requires
-    add-size-unless-2
-    size-unless-requires-2
+    add-size-unless
+    size-unless-requires
     enum-told-5
     enum-told-6
     enum-told-7

@@ -11,9 +11,12 @@ slice-aggregate-write-noted c = search needs
 slice-aggregate-write-noted-2 : tie.Need-slice-aggregate-write-noted-2
 slice-aggregate-write-noted-2 c = search needs
 
+slice-aggregate-write-noted-3 : tie.Need-slice-aggregate-write-noted-3
+slice-aggregate-write-noted-3 c = search needs
+
 write-noted-requires : tie.Need-write-noted-requires
-write-noted-requires c κs = let p = c .before .before .before .before .before .before .before .before .before .pre in
-    (p .0, (p .1 .0, (p .1 .1 .0, (enough-of (length (c .before .before .before .before .before .before .before .before .before .args .rows .now)) 320 (λ _. omega (arith, p .1 .1 .1)), (slots-of 64 (omega arith) (omega arith), fresh 64)))))
+write-noted-requires c κs = let p = c .before .before .before .before .before .before .before .before .before .before .pre in
+    (p .0, (p .1 .0, (p .1 .1 .0, (enough-of (length (c .before .before .before .before .before .before .before .before .before .before .args .rows .now)) 320 (λ _. omega (arith, p .1 .1 .1)), ((slots-of 64 (omega arith) (omega arith), fresh 64), slots-of 64 (omega arith) (omega arith))))))
 
 same-length : tie.Need-same-length
 same-length c = search needs
@@ -30,6 +33,7 @@ write-few-spec =
     (tie.spec
     slice-aggregate-write-noted
     slice-aggregate-write-noted-2
+    slice-aggregate-write-noted-3
     write-noted-requires
     same-length
     same-length-2

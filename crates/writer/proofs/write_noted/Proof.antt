@@ -10,8 +10,8 @@ use Rattle.writer.proofs.write_noted.Statement.{statement}
 use Rattle.writer.proofs.write_noted.Tie as tie
 
 measure-requires : tie.Need-measure-requires
-measure-requires c κs = let a = c .before .before .before .before .before .before .before .before .before .before .before .args in
-    let p = c .before .before .before .before .before .before .before .before .before .before .before .pre in
+measure-requires c κs = let a = c .before .before .before .before .before .before .before .before .before .before .before .before .before .args in
+    let p = c .before .before .before .before .before .before .before .before .before .before .before .before .before .pre in
     let f = a .first .now in
     let s = a .second .now in
     let o = a .output .now in
@@ -19,7 +19,7 @@ measure-requires c κs = let a = c .before .before .before .before .before .befo
     let w = a .rows .now in
     let sizes = sizes-passed o t (p .1 .0) in
     let state = state-passed o t (stateOf (a .writer)) (p .1 .1 .0) in
-    (whole-rows f s w (p .0), ((sizes .0, state .0), ((state .1, omega (arith, sizes .1, state .1)), (p .1 .1 .1 .0, p .1 .1 .1 .1))))
+    (whole-rows f s w (p .0), ((sizes .0, state .0), ((state .1, omega (arith, sizes .1, state .1)), (p .1 .1 .1 .0, (p .1 .1 .1 .1 .0, p .1 .1 .1 .1 .1)))))
 
 enum-known-r : tie.Need-enum-known-r
 enum-known-r c = search needs
@@ -28,16 +28,16 @@ enum-known-used : tie.Need-enum-known-used
 enum-known-used c = search needs
 
 slice-reshare-prefix-write-rows : tie.Need-slice-reshare-prefix-write-rows
-slice-reshare-prefix-write-rows c = let said = rw (c .before .before .before .used .given .1) at (c .before .before .before .before .before .before .before .before .before .measure .ensures) in
+slice-reshare-prefix-write-rows c = let said = rw (c .before .before .before .used .given .1) at (c .before .before .before .before .before .before .before .before .before .before .before .measure .ensures) in
     said .0
 
 slice-aggregate-write-rows : tie.Need-slice-aggregate-write-rows
-slice-aggregate-write-rows c = let said = rw (c .before .before .before .before .used .given .1) at (c .before .before .before .before .before .before .before .before .before .before .measure .ensures) in
-    sym (length-take-le (c .before .before .before .before .used .given .0 .0) (c .before .before .before .before .before .before .before .before .before .before .measure .last .1 .1 .1 .1 .1 .1 .0) (said .0))
+slice-aggregate-write-rows c = let said = rw (c .before .before .before .before .used .given .1) at (c .before .before .before .before .before .before .before .before .before .before .before .before .measure .ensures) in
+    sym (length-take-le (c .before .before .before .before .used .given .0 .0) (c .before .before .before .before .before .before .before .before .before .before .before .before .measure .last .1 .1 .1 .1 .1 .1 .0) (said .0))
 
 write-rows-requires : tie.Need-write-rows-requires
-write-rows-requires c κs = let a = c .before .before .before .before .before .before .before .before .before .before .before .before .before .before .before .before .before .before .before .before .before .before .before .args in
-    let p = c .before .before .before .before .before .before .before .before .before .before .before .before .before .before .before .before .before .before .before .before .before .before .before .pre in
+write-rows-requires c κs = let a = c .before .before .before .before .before .before .before .before .before .before .before .before .before .before .before .before .before .before .before .before .before .before .before .before .before .before .before .before .args in
+    let p = c .before .before .before .before .before .before .before .before .before .before .before .before .before .before .before .before .before .before .before .before .before .before .before .before .before .before .before .before .pre in
     let f = a .first .now in
     let s = a .second .now in
     let o = a .output .now in
@@ -45,8 +45,8 @@ write-rows-requires c κs = let a = c .before .before .before .before .before .b
     let w = a .rows .now in
     let sizes = sizes-passed o t (p .1 .0) in
     let state = state-passed o t (stateOf (a .writer)) (p .1 .1 .0) in
-    let said = rw (c .before .before .before .before .before .used .given .1) at (c .before .before .before .before .before .before .before .before .before .before .before .measure .ensures) in
-    (whole-rows f s w (p .0), (list-rows f s w (p .0), (sizes .0, (rw (c .before .before .before .before .before .before .before .before .before .before .before .measure .kept .1 .1 .1 .1 .1 .1 .1 .0) (p .1 .1 .1 .1 .0), measured-ready f s o t w _ _ (a .writer .names) (a .writer .written) _ (state .0) (state .1) said))))
+    let said = rw (c .before .before .before .before .before .before .used .given .1) at (c .before .before .before .before .before .before .before .before .before .before .before .before .before .before .measure .ensures) in
+    (whole-rows f s w (p .0), (list-rows f s w (p .0), (sizes .0, ((rw (c .before .before .before .before .before .before .before .before .before .before .before .before .before .before .measure .kept .1 .1 .1 .1 .1 .1 .1 .0) (p .1 .1 .1 .1 .0 .0), rw (c .before .before .before .before .before .before .before .before .before .before .before .before .before .before .measure .kept .1 .1 .1 .1 .1 .1 .1 .1 .0) (p .1 .1 .1 .1 .1)), measured-ready f s o t w _ _ (a .writer .names) (a .writer .written) _ (state .0) (state .1) said))))
 
 same-length : tie.Need-same-length
 same-length c = search needs
@@ -60,18 +60,18 @@ same-length-3 c = search needs
 same-length-4 : tie.Need-same-length-4
 same-length-4 c = search needs
 
+same-length-5 : tie.Need-same-length-5
+same-length-5 c = search needs
+
 returns : tie.Need-returns
-returns c = let a = c .before .before .before .before .before .before .before .before .before .before .before .before .before .before .before .before .before .before .before .args in
-    let p = c .before .before .before .before .before .before .before .before .before .before .before .before .before .before .before .before .before .before .before .pre in
+returns c = let a = c .before .before .before .before .before .before .before .before .before .before .before .before .before .before .before .before .before .before .before .before .before .before .before .args in
+    let p = c .before .before .before .before .before .before .before .before .before .before .before .before .before .before .before .before .before .before .before .before .before .before .before .pre in
     let f = a .first .now in
     let s = a .second .now in
     let o = a .output .now in
     let t = a .pool .now in
     let w = a .rows .now in
-    stops-rows (stateOf (a .writer)) (lentOf o t) (rowsIn f s w) (p .1 .0) (p .1 .1 .0) _ _ (rw (c .before .r .given .1) at (c .before .before .before .before .before .before .before .measure .ensures))
-
-same-length-5 : tie.Need-same-length-5
-same-length-5 c = search needs
+    stops-rows (stateOf (a .writer)) (lentOf o t) (rowsIn f s w) (p .1 .0) (p .1 .1 .0) _ _ (rw (c .before .r .given .1) at (c .before .before .before .before .before .before .before .before .before .measure .ensures))
 
 same-length-6 : tie.Need-same-length-6
 same-length-6 c = search needs
@@ -82,15 +82,21 @@ same-length-7 c = search needs
 same-length-8 : tie.Need-same-length-8
 same-length-8 c = search needs
 
+same-length-9 : tie.Need-same-length-9
+same-length-9 c = search needs
+
+same-length-10 : tie.Need-same-length-10
+same-length-10 c = search needs
+
 returns-2 : tie.Need-returns-2
-returns-2 c = let a = c .before .before .before .before .before .before .before .before .before .before .before .before .before .before .before .before .before .before .before .before .before .before .before .before .before .before .before .before .args in
-    let p = c .before .before .before .before .before .before .before .before .before .before .before .before .before .before .before .before .before .before .before .before .before .before .before .before .before .before .before .before .pre in
+returns-2 c = let a = c .before .before .before .before .before .before .before .before .before .before .before .before .before .before .before .before .before .before .before .before .before .before .before .before .before .before .before .before .before .before .before .before .before .args in
+    let p = c .before .before .before .before .before .before .before .before .before .before .before .before .before .before .before .before .before .before .before .before .before .before .before .before .before .before .before .before .before .before .before .before .before .pre in
     let f = a .first .now in
     let s = a .second .now in
     let o = a .output .now in
     let t = a .pool .now in
     let w = a .rows .now in
-    let said = rw (c .before .before .before .before .before .before .before .before .before .before .used .given .1) at (c .before .before .before .before .before .before .before .before .before .before .before .before .before .before .before .before .measure .ensures) in
+    let said = rw (c .before .before .before .before .before .before .before .before .before .before .before .used .given .1) at (c .before .before .before .before .before .before .before .before .before .before .before .before .before .before .before .before .before .before .before .measure .ensures) in
     c .before .before .before .before .write-rows .ensures ∙ goes-through (stateOf (a .writer)) (lentOf o t) (rowsIn f s w) (p .1 .0) (p .1 .1 .0) (said .1)
 
 pub write-noted-spec : {M : Type 1} → statement M
@@ -107,9 +113,11 @@ write-noted-spec =
     same-length-2
     same-length-3
     same-length-4
-    returns
     same-length-5
+    returns
     same-length-6
     same-length-7
     same-length-8
+    same-length-9
+    same-length-10
     returns-2)

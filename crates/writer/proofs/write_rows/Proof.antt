@@ -8,31 +8,31 @@ use Rattle.writer.proofs.write_rows.Statement.{statement}
 use Rattle.writer.proofs.write_rows.Tie as tie
 
 abbrev Inv-loop : tie.InvT-loop
-Inv-loop first second rows output₀ pool₀ notes heads at₀ names₀ word₀ output pool at names word = Writing first second output₀ pool₀ rows names₀ at₀ notes word at names output pool
+Inv-loop first second rows output₀ pool₀ notes heads seen at₀ names₀ word₀ output pool at names word = Writing first second output₀ pool₀ rows names₀ at₀ notes word at names output pool
 
 abbrev μ-loop : tie.MeasureT-loop
-μ-loop first second rows output₀ pool₀ notes heads at₀ names₀ word₀ output pool at names word = length rows - word
+μ-loop first second rows output₀ pool₀ notes heads seen at₀ names₀ word₀ output pool at names word = length rows - word
 
 loop-holds : tie.Need-loop-holds Inv-loop μ-loop
-loop-holds c = let a = c .before .before .before .before .before .before .before .args in
-    let p = c .before .before .before .before .before .before .before .pre in
+loop-holds c = let a = c .before .before .before .before .before .before .before .before .args in
+    let p = c .before .before .before .before .before .before .before .before .pre in
     begins (a .first .now) (a .second .now) (a .output .now) (a .pool .now) (a .rows .now) (a .writer .names) (a .writer .written) (a .notes .now) (p .1 .0) (p .1 .1 .1 .1 .settled)
 
-mul-known-name : tie.Need-mul-known-name Inv-loop μ-loop
-mul-known-name c = search needs
+mul-quick-known-name : tie.Need-mul-quick-known-name Inv-loop μ-loop
+mul-quick-known-name c = search needs
 
-sub-known-name : tie.Need-sub-known-name Inv-loop μ-loop
-sub-known-name c = search needs
+sub-quick-known-name : tie.Need-sub-quick-known-name Inv-loop μ-loop
+sub-quick-known-name c = search needs
 
-part-known-name-start : tie.Need-part-known-name-start Inv-loop μ-loop
-part-known-name-start c = search needs
+part-quick-known-name-start : tie.Need-part-quick-known-name-start Inv-loop μ-loop
+part-quick-known-name-start c = search needs
 
-part-known-name-end : tie.Need-part-known-name-end Inv-loop μ-loop
-part-known-name-end c = search needs
+part-quick-known-name-end : tie.Need-part-quick-known-name-end Inv-loop μ-loop
+part-quick-known-name-end c = search needs
 
-known-name-requires : tie.Need-known-name-requires Inv-loop μ-loop
-known-name-requires c κs = let a = c .before .before .before .before .before .before .before .before .before .before .args in
-    let p = c .before .before .before .before .before .before .before .before .before .before .pre in
+quick-known-name-requires : tie.Need-quick-known-name-requires Inv-loop μ-loop
+quick-known-name-requires c κs = let a = c .before .before .before .before .before .before .before .before .before .before .before .args in
+    let p = c .before .before .before .before .before .before .before .before .before .before .before .pre in
     let l = c .before .before .loop in
     let m = l .inv in
     let q = p .1 .1 .1 .1 in
@@ -52,13 +52,13 @@ part-write-row-end : tie.Need-part-write-row-end Inv-loop μ-loop
 part-write-row-end c = search needs
 
 write-row-requires : tie.Need-write-row-requires Inv-loop μ-loop
-write-row-requires c κs = let a = c .before .before .before .before .before .before .before .before .before .before .before .before .before .args in
-    let p = c .before .before .before .before .before .before .before .before .before .before .before .before .before .pre in
+write-row-requires c κs = let a = c .before .before .before .before .before .before .before .before .before .before .before .before .before .before .args in
+    let p = c .before .before .before .before .before .before .before .before .before .before .before .before .before .before .pre in
     let l = c .before .before .before .before .before .loop in
     let m = l .inv in
     let q = p .1 .1 .1 .1 in
     let e = to-end (a .rows .now) (l .word) in
-    let known = rw e at (c .before .before .known-name .ensures) in
+    let known = rw e at (c .before .before .quick-known-name .ensures) in
     let k = known _ _ (m .pool) (m .more) (m .names-are) (rw (m .pool-grows) at (q .knows)) (settled-here (a .first .now) (a .second .now) (a .output .now) (a .pool .now) (a .rows .now) (a .writer .names) (a .writer .written) (a .notes .now) (l .word) (l .at) (l .names) (l .output) (l .pool) m (q .bytes-fit) (q .pairs-fit) (omega arith) (p .0)) in
     rw e (omega (arith, length-drop (l .word) (a .rows .now), m .aligned, p .0), (token-fits (a .first .now) (a .second .now) (a .output .now) (a .pool .now) (a .rows .now) (a .writer .names) (a .writer .written) (a .notes .now) (l .word) (l .at) (l .names) (l .output) (l .pool) m (q .bytes-fit) (q .pairs-fit) (omega arith) (p .0), row-fits (a .first .now) (a .second .now) (a .output .now) (a .pool .now) (a .rows .now) (a .writer .names) (a .writer .written) (a .notes .now) (l .word) (l .at) (l .names) (l .output) (l .pool) m (q .bytes-fit) (q .pairs-fit) (omega arith) (p .0) _ k))
 
@@ -75,28 +75,28 @@ part-keep-name-end : tie.Need-part-keep-name-end Inv-loop μ-loop
 part-keep-name-end c = search needs
 
 keep-name-requires : tie.Need-keep-name-requires Inv-loop μ-loop
-keep-name-requires c κs = let a = c .before .before .before .before .before .before .before .before .before .before .before .before .before .before .before .before .before .before .args in
-    let p = c .before .before .before .before .before .before .before .before .before .before .before .before .before .before .before .before .before .before .pre in
+keep-name-requires c κs = let a = c .before .before .before .before .before .before .before .before .before .before .before .before .before .before .before .before .before .before .before .args in
+    let p = c .before .before .before .before .before .before .before .before .before .before .before .before .before .before .before .before .before .before .before .pre in
     let l = c .before .before .before .before .before .before .before .before .before .before .loop in
     let m = l .inv in
     let q = p .1 .1 .1 .1 in
     let e = to-end (a .rows .now) (l .word) in
-    let known = rw e at (c .before .before .before .before .before .before .before .known-name .ensures) in
+    let known = rw e at (c .before .before .before .before .before .before .before .quick-known-name .ensures) in
     let k = known _ _ (m .pool) (m .more) (m .names-are) (rw (m .pool-grows) at (q .knows)) (settled-here (a .first .now) (a .second .now) (a .output .now) (a .pool .now) (a .rows .now) (a .writer .names) (a .writer .written) (a .notes .now) (l .word) (l .at) (l .names) (l .output) (l .pool) m (q .bytes-fit) (q .pairs-fit) (omega arith) (p .0)) in
     rw e (omega (arith, length-drop (l .word) (a .rows .now), m .aligned, p .0), (omega (arith, at-fits (a .first .now) (a .second .now) (a .output .now) (a .pool .now) (a .rows .now) (a .writer .names) (a .writer .written) (a .notes .now) (l .word) (l .at) (l .names) (l .output) (l .pool) m (q .bytes-fit) (q .pairs-fit) (omega arith) (p .0) _ k, p .1 .1 .0), pair-fits (a .first .now) (a .second .now) (a .output .now) (a .pool .now) (a .rows .now) (a .writer .names) (a .writer .written) (a .notes .now) (l .word) (l .at) (l .names) (l .output) (l .pool) m (q .bytes-fit) (q .pairs-fit) (omega arith) (p .0) _ k))
 
 add-word : tie.Need-add-word Inv-loop μ-loop
-add-word c = let a = c .before .before .before .before .before .before .before .before .before .before .before .before .before .before .before .before .before .before .before .before .before .args in
-    let p = c .before .before .before .before .before .before .before .before .before .before .before .before .before .before .before .before .before .before .before .before .before .pre in
+add-word c = let a = c .before .before .before .before .before .before .before .before .before .before .before .before .before .before .before .before .before .before .before .before .before .before .args in
+    let p = c .before .before .before .before .before .before .before .before .before .before .before .before .before .before .before .before .before .before .before .before .before .before .pre in
     let l = c .before .before .before .before .before .before .before .before .before .before .before .before .before .loop in
     let m = l .inv in
     let q = p .1 .1 .1 .1 in
     let e = to-end (a .rows .now) (l .word) in
-    omega (arith, c .before .before .before .before .before .before .before .before .before .before .before .before .before .before .before .before .before .before .before .before .before .good .1 .1 .0, m .aligned, p .0)
+    omega (arith, c .before .before .before .before .before .before .before .before .before .before .before .before .before .before .before .before .before .before .before .before .before .before .good .1 .1 .0, m .aligned, p .0)
 
 loop-less : tie.Need-loop-less Inv-loop μ-loop
-loop-less c = let a = c .before .before .before .before .before .before .before .before .before .before .before .before .before .before .before .before .before .before .before .before .before .args in
-    let p = c .before .before .before .before .before .before .before .before .before .before .before .before .before .before .before .before .before .before .before .before .before .pre in
+loop-less c = let a = c .before .before .before .before .before .before .before .before .before .before .before .before .before .before .before .before .before .before .before .before .before .before .args in
+    let p = c .before .before .before .before .before .before .before .before .before .before .before .before .before .before .before .before .before .before .before .before .before .before .pre in
     let l = c .before .before .before .before .before .before .before .before .before .before .before .before .before .loop in
     let m = l .inv in
     let q = p .1 .1 .1 .1 in
@@ -104,13 +104,13 @@ loop-less c = let a = c .before .before .before .before .before .before .before 
     omega (arith, m .aligned, p .0)
 
 loop-again : tie.Need-loop-again Inv-loop μ-loop
-loop-again c = let a = c .before .before .before .before .before .before .before .before .before .before .before .before .before .before .before .before .before .before .before .before .before .args in
-    let p = c .before .before .before .before .before .before .before .before .before .before .before .before .before .before .before .before .before .before .before .before .before .pre in
+loop-again c = let a = c .before .before .before .before .before .before .before .before .before .before .before .before .before .before .before .before .before .before .before .before .before .before .args in
+    let p = c .before .before .before .before .before .before .before .before .before .before .before .before .before .before .before .before .before .before .before .before .before .before .pre in
     let l = c .before .before .before .before .before .before .before .before .before .before .before .before .before .loop in
     let m = l .inv in
     let q = p .1 .1 .1 .1 in
     let e = to-end (a .rows .now) (l .word) in
-    let known = rw e at (c .before .before .before .before .before .before .before .before .before .before .known-name .ensures) in
+    let known = rw e at (c .before .before .before .before .before .before .before .before .before .before .quick-known-name .ensures) in
     let k = known _ _ (m .pool) (m .more) (m .names-are) (rw (m .pool-grows) at (q .knows)) (settled-here (a .first .now) (a .second .now) (a .output .now) (a .pool .now) (a .rows .now) (a .writer .names) (a .writer .written) (a .notes .now) (l .word) (l .at) (l .names) (l .output) (l .pool) m (q .bytes-fit) (q .pairs-fit) (omega arith) (p .0)) in
     goes-on (a .first .now) (a .second .now) (a .output .now) (a .pool .now) (a .rows .now) (a .writer .names) (a .writer .written) (a .notes .now) (l .word) (l .at) (l .names) (l .output) (l .pool) m (q .bytes-fit) (q .pairs-fit) (omega arith) (p .0) _ k _ _ _ _ (rw e at (c .before .before .before .before .before .before .before .write-row .ensures .0)) (rw e at (c .before .before .before .before .before .before .before .write-row .ensures .1)) (rw e at (c .before .before .keep-name .ensures .0)) (rw e at (c .before .before .keep-name .ensures .1))
 
@@ -121,8 +121,8 @@ same-length-2 : tie.Need-same-length-2 Inv-loop μ-loop
 same-length-2 c = c .before .loop .inv .table-length
 
 returns : tie.Need-returns Inv-loop μ-loop
-returns c = let a = c .before .before .before .before .before .before .before .before .before .args in
-    let p = c .before .before .before .before .before .before .before .before .before .pre in
+returns c = let a = c .before .before .before .before .before .before .before .before .before .before .args in
+    let p = c .before .before .before .before .before .before .before .before .before .before .pre in
     let l = c .before .loop in
     let m = l .inv in
     let q = p .1 .1 .1 .1 in
@@ -136,11 +136,11 @@ write-rows-spec =
     Inv-loop
     μ-loop
     loop-holds
-    mul-known-name
-    sub-known-name
-    part-known-name-start
-    part-known-name-end
-    known-name-requires
+    mul-quick-known-name
+    sub-quick-known-name
+    part-quick-known-name-start
+    part-quick-known-name-end
+    quick-known-name-requires
     mul-write-row
     sub-write-row
     part-write-row-start

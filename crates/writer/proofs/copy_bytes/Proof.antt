@@ -4,8 +4,8 @@ use Prim.Native.Nat.{_-_, _≤_}
 use lib.ListN.{length, take, length-set}
 use lib.Seq.{take-suc, take-suc-set, take-all}
 use native.Mathlib.Numerals.{add-one}
-use Rattle.writer.proofs.copy.Statement.{statement}
-use Rattle.writer.proofs.copy.Tie as tie
+use Rattle.writer.proofs.copy_bytes.Statement.{statement}
+use Rattle.writer.proofs.copy_bytes.Tie as tie
 
 abbrev Inv-loop : tie.InvT-loop
 Inv-loop to₀ from done₀ to done = (done ≤ length from) × (length to ≡ length from) × (take done to ≡ take done from)
@@ -41,8 +41,8 @@ returns : tie.Need-returns Inv-loop μ-loop
 returns c = let l = c .before .loop in
     sym (take-all (l .done) (l .to) (omega arith)) ∙ l .inv .2 ∙ take-all (l .done) (c .before .before .args .from .now) (omega arith)
 
-pub copy-spec : {M : Type 1} → statement M
-copy-spec =
+pub copy-bytes-spec : {M : Type 1} → statement M
+copy-bytes-spec =
     tie.close
     (tie.spec
     Inv-loop
