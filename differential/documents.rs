@@ -516,6 +516,22 @@ pub fn long_tag(random: &mut Random, size: usize) -> Vec<u8> {
     maker.document
 }
 
+/// A start tag of exactly `size` bytes, 6 or more and not 7 to 10.
+pub fn tag_of(size: usize) -> Vec<u8> {
+    let mut tag = hex("32FFFF000170");
+    while tag.len() < size {
+        let rest = size - tag.len();
+        let len = match rest - 5 {
+            len @ 0..=65_535 => len,
+            _ => 60_000.min(rest - 10),
+        };
+        tag.extend(hex("4F0000"));
+        tag.extend((len as u16).to_be_bytes());
+        tag.resize(tag.len() + len, 0xFF);
+    }
+    tag
+}
+
 /// Lists with a string or a blob of these bytes in each place where one can stand.
 pub fn lists_with(text: &str) -> Vec<Vec<android_abx::Event>> {
     use android_abx::{Attribute, AttributeValue, Event};

@@ -15,6 +15,10 @@ pub fn unwritten_word(i: usize) -> u32 {
     0xA500_0000 | (i as u32).wrapping_mul(0x9E37) & 0x00FF_FFFF
 }
 
+pub fn unwritten_byte(i: usize) -> u8 {
+    0xA5 ^ i as u8
+}
+
 impl<T: Copy + PartialEq> Lent<T> {
     pub fn new(len: usize, unwritten: fn(usize) -> T) -> Lent<T> {
         let now: Vec<T> = (0..len).map(unwritten).collect();
@@ -49,6 +53,11 @@ impl<T: Copy + PartialEq> Lent<T> {
         self.expected[at..at + values.len()].copy_from_slice(values);
     }
 
+    /// That the next call should move those of a range to the front.
+    pub fn expect_moved(&mut self, range: std::ops::Range<usize>) {
+        self.expected.copy_within(range, 0);
+    }
+
     pub fn expected(&self, at: usize) -> T {
         self.expected[at]
     }
@@ -64,7 +73,8 @@ impl<T: Copy + PartialEq> Lent<T> {
         if self.len() <= SMALL {
             return self.holds_all();
         }
-        let near = from.saturating_sub(16)..(to + 16).min(self.len());
+        let to = to.min(self.len());
+        let near = from.min(to).saturating_sub(16)..(to + 16).min(self.len());
         self.now[near.clone()] == self.expected[near]
     }
 

@@ -1,13 +1,17 @@
-//! Holds the static library against the Rust, document by document: `compare short|long [SEED]`. `compare vectors` prints the
-//! documents whose answers are stored.
+//! Holds the static library against the Rust, document by document: `compare short|long [SEED [PART...]]`, where a part is slice,
+//! writer or stream, and none means all. `compare vectors` prints the documents whose answers are stored.
 
+mod calls;
+mod chunks;
 mod documents;
 mod lent;
 mod ours;
 mod report;
 mod rows;
 mod slice;
+mod stream;
 mod vectors;
+mod walk;
 mod writer;
 
 use std::process::ExitCode;
@@ -314,7 +318,9 @@ fn main() -> ExitCode {
             return ExitCode::SUCCESS;
         }
         _ => {
-            eprintln!("usage: compare short|long [SEED], or compare vectors");
+            eprintln!(
+                "usage: compare short|long [SEED [slice|writer|stream]...], or compare vectors"
+            );
             return ExitCode::from(2);
         }
     };
@@ -322,12 +328,20 @@ fn main() -> ExitCode {
     println!("seed {seed}");
     let random = &mut Random::new(seed);
     let mut report = Report::default();
-    let mut refusals: Vec<usize> = (1..=11).chain([17, 19]).collect();
-    slice_reader(&mut report, long, random);
-    {
-        writing::writer(&mut report, long, random);
-        refusals.extend([14, 15, 16]);
+    let mut refusals = vec![];
+    let parts: Vec<&str> = args.iter().skip(2).map(String::as_str).collect();
+    let asked = |part| parts.is_empty() || parts.contains(&part);
+    if asked("slice") {
+        slice_reader(&mut report, long, random);
+        refusals.extend((1..=11).chain([17, 19]));
     }
-    refusals.sort();
+    if asked("writer") {
+        writing::writer(&mut report, long, random);
+        refusals.extend([7, 11, 14, 15, 16, 19]);
+    }
+    if asked("stream") {
+        chunks::chunk_reader(&mut report, long, random);
+        refusals.extend((1..=13).chain(17..=19));
+    }
     report.finish(&refusals)
 }

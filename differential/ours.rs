@@ -1,80 +1,18 @@
 //! The static library's functions, over slices. An answer starts out as words that no call gives.
 
-#[link(name = "abx", kind = "static")]
-extern "C" {
-    fn abx_slice_create(
-        document: *const u8,
-        document_len: usize,
-        pool: *const u32,
-        pool_len: usize,
-        answer: *mut usize,
-        answer_len: usize,
-    );
-    fn abx_slice_next(
-        at: usize,
-        names: usize,
-        document: *const u8,
-        document_len: usize,
-        pool: *mut u32,
-        pool_len: usize,
-        rows: *mut u32,
-        rows_len: usize,
-        answer: *mut usize,
-        answer_len: usize,
-    );
-}
+use std::ffi::c_void;
 
-/// Whether it went well (0), ended (1) or was refused (2), and three words that depend on it.
+/// Whether it went well (0), ended (1), was refused (2) or needs more (3), and three words that depend on it.
 pub type Answer = [usize; 4];
 
 const NONE: Answer = [usize::MAX; 4];
 
 pub const END: Answer = [1, 0, 0, 0];
 
+pub const NEED_MORE: Answer = [3, 0, 0, 0];
+
 pub fn refused(number: u32, detail: u64) -> Answer {
     [2, number as usize, detail as usize, 0]
-}
-
-/// `[0, at, names, 0]` or a refusal.
-pub fn slice_create(document: &[u8], pool: &[u32]) -> Answer {
-    let mut answer = NONE;
-    unsafe {
-        abx_slice_create(
-            document.as_ptr(),
-            document.len(),
-            pool.as_ptr(),
-            pool.len(),
-            answer.as_mut_ptr(),
-            answer.len(),
-        );
-    }
-    answer
-}
-
-/// `[0, rows, at, names]`, the end or a refusal.
-pub fn slice_next(
-    at: usize,
-    names: usize,
-    document: &[u8],
-    pool: &mut [u32],
-    rows: &mut [u32],
-) -> Answer {
-    let mut answer = NONE;
-    unsafe {
-        abx_slice_next(
-            at,
-            names,
-            document.as_ptr(),
-            document.len(),
-            pool.as_mut_ptr(),
-            pool.len(),
-            rows.as_mut_ptr(),
-            rows.len(),
-            answer.as_mut_ptr(),
-            answer.len(),
-        );
-    }
-    answer
 }
 
 /// Rows, and the two stores of their spans.
@@ -85,99 +23,88 @@ pub struct List<'a> {
     pub rows: &'a [u32],
 }
 
-#[link(name = "abx", kind = "static")]
-extern "C" {
-    fn abx_writer_create(
-        output: *mut u8,
-        output_len: usize,
-        pool: *const u32,
-        pool_len: usize,
-        answer: *mut usize,
-        answer_len: usize,
-    );
-    fn abx_write_event(
-        written: usize,
-        names: usize,
-        first: *const u8,
-        first_len: usize,
-        second: *const u8,
-        second_len: usize,
-        rows: *const u32,
-        rows_len: usize,
-        output: *mut u8,
-        output_len: usize,
-        pool: *mut u32,
-        pool_len: usize,
-        answer: *mut usize,
-        answer_len: usize,
-    );
-    fn abx_write_events(
-        written: usize,
-        names: usize,
-        first: *const u8,
-        first_len: usize,
-        second: *const u8,
-        second_len: usize,
-        rows: *const u32,
-        rows_len: usize,
-        output: *mut u8,
-        output_len: usize,
-        pool: *mut u32,
-        pool_len: usize,
-        answer: *mut usize,
-        answer_len: usize,
-    );
+/// A slice as the library takes it: a pointer, then a length.
+trait Slice {
+    fn parts(self) -> (*mut c_void, usize);
 }
 
-/// `[0, written, names, 0]` or a refusal.
-pub fn writer_create(output: &mut [u8], pool: &[u32]) -> Answer {
-    let mut answer = NONE;
-    unsafe {
-        abx_writer_create(
-            output.as_mut_ptr(),
-            output.len(),
-            pool.as_ptr(),
-            pool.len(),
-            answer.as_mut_ptr(),
-            answer.len(),
-        );
+impl<T> Slice for &[T] {
+    fn parts(self) -> (*mut c_void, usize) {
+        (self.as_ptr() as *mut c_void, self.len())
     }
-    answer
 }
 
-macro_rules! write {
-    ($name:ident, $function:ident) => {
-        /// `[0, written, names, 0]` or a refusal.
-        pub fn $name(
-            written: usize,
-            names: usize,
-            list: List,
-            output: &mut [u8],
-            pool: &mut [u32],
-        ) -> Answer {
-            let mut answer = NONE;
-            unsafe {
-                $function(
-                    written,
-                    names,
-                    list.first.as_ptr(),
-                    list.first.len(),
-                    list.second.as_ptr(),
-                    list.second.len(),
-                    list.rows.as_ptr(),
-                    list.rows.len(),
-                    output.as_mut_ptr(),
-                    output.len(),
-                    pool.as_mut_ptr(),
-                    pool.len(),
-                    answer.as_mut_ptr(),
-                    answer.len(),
-                );
-            }
-            answer
+impl<T> Slice for &mut [T] {
+    fn parts(self) -> (*mut c_void, usize) {
+        (self.as_mut_ptr().cast(), self.len())
+    }
+}
+
+/// Each function once: its numbers, then its slices; the answer's words come last.
+macro_rules! library {
+    ($($(#[$says:meta])* $name:ident = $symbol:ident($($number:ident),*; $($slice:ident: $kind:ty),*);)*) => {
+        #[link(name = "abx", kind = "static")]
+        extern "C" {
+            $(fn $symbol(
+                $($number: usize,)*
+                $($slice: *mut c_void, _: usize,)*
+                answer: *mut usize,
+                _: usize,
+            );)*
         }
+        $(
+            $(#[$says])*
+            #[allow(clippy::too_many_arguments)]
+            pub fn $name($($number: usize,)* $($slice: $kind),*) -> Answer {
+                let mut answer = NONE;
+                $(let $slice = $slice.parts();)*
+                unsafe {
+                    $symbol($($number,)* $($slice.0, $slice.1,)* answer.as_mut_ptr(), answer.len());
+                }
+                answer
+            }
+        )*
     };
 }
 
-write!(write_event, abx_write_event);
-write!(write_events, abx_write_events);
+library! {
+    /// `[0, at, names, 0]` or a refusal.
+    slice_create = abx_slice_create(; document: &[u8], pool: &[u32]);
+    /// `[0, rows, at, names]`, the end or a refusal.
+    slice_next = abx_slice_next(at, names; document: &[u8], pool: &mut [u32], rows: &mut [u32]);
+    /// `[0, 0, 0, 0]` or a refusal.
+    stream_create = abx_stream_create(; state: &mut [usize], window: &[u8], pool: &[u32], store: &[u8]);
+    /// `[0, taken, 0, 0]` or a refusal.
+    stream_feed = abx_stream_feed(; state: &mut [usize], window: &mut [u8], pool: &[u32], store: &[u8], chunk: &[u8]);
+    /// `[0, 0, 0, 0]` or a refusal.
+    stream_finish = abx_stream_finish(; state: &mut [usize], window: &[u8], pool: &[u32], store: &[u8]);
+    /// `[0, rows, 0, 0]`, the end, a need of more, or a refusal.
+    stream_next = abx_stream_next(; state: &mut [usize], window: &[u8], pool: &mut [u32], store: &mut [u8], rows: &mut [u32]);
+    /// `[0, written, names, 0]` or a refusal.
+    writer_create = abx_writer_create(; output: &mut [u8], pool: &[u32]);
+    /// `[0, written, names, 0]` or a refusal.
+    write_event = abx_write_event(written, names; first: &[u8], second: &[u8], rows: &[u32], output: &mut [u8], pool: &mut [u32]);
+    /// `[0, written, names, 0]` or a refusal.
+    write_events = abx_write_events(written, names; first: &[u8], second: &[u8], rows: &[u32], output: &mut [u8], pool: &mut [u32]);
+}
+
+/// Reads a document by the slice reader and hands each event's rows to the visitor. The answer that is no event.
+pub fn read_slice(
+    document: &[u8],
+    pool: &mut [u32],
+    rows: &mut [u32],
+    mut visit: impl FnMut(&[u32]),
+) -> Answer {
+    let mut answer = slice_create(document, pool);
+    let [0, mut at, mut names, _] = answer else {
+        return answer;
+    };
+    loop {
+        answer = slice_next(at, names, document, pool, rows);
+        let [0, count, new_at, new_names] = answer else {
+            return answer;
+        };
+        visit(&rows[..8 * count]);
+        (at, names) = (new_at, new_names);
+    }
+}

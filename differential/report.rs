@@ -17,6 +17,16 @@ pub struct Seen {
     pub refusals: [u64; 20],
 }
 
+impl Seen {
+    /// A row of this kind, and of this type where it is an attribute.
+    pub fn row(&mut self, kind: u32, of: u32) {
+        self.kinds[kind as usize] += 1;
+        if kind == 15 {
+            self.types[of as usize] += 1;
+        }
+    }
+}
+
 #[derive(Default)]
 pub struct Report {
     differences: u64,

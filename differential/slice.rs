@@ -7,10 +7,8 @@ use harness::common::map_error;
 use crate::lent::{unwritten_word, Lent};
 use crate::ours::{self, refused, Answer, END};
 use crate::report::{Difference, Seen};
-use crate::rows::{self, Row, Value};
-
-/// Names that a pool keeps.
-pub const POOL_LIMIT: usize = 65_535;
+use crate::rows::{self, says, span, Value};
+use crate::walk::{Walk, POOL_LIMIT};
 
 pub struct Reader {
     pool: Lent<u32>,
@@ -272,6 +270,7 @@ impl Reader {
             pool: &mut self.pool,
             rows: &mut self.rows,
             written: 0,
+            store: None,
         };
         walk.event();
         if (walk.at, walk.names, walk.written) != (at + len, total, 8 * count) {
@@ -287,12 +286,12 @@ impl Reader {
         self.call(document, at, kept, lend, [0, count, at + len, total])?;
         for i in kept..total {
             let pair = &self.pool.now[2 * i..2 * i + 2];
-            if span(document, 0, pair[0], pair[1]) != Some(self.names[i].as_bytes()) {
+            if span(&[document], &[0, pair[0], pair[1]]) != Some(self.names[i].as_bytes()) {
                 return Err(format!("name {i} of the pool, new in the event at {at}"));
             }
         }
         let rows = &self.rows.now[..8 * count];
-        if !says(document, rows, event, &mut self.seen) {
+        if !says(&[document], rows, event, &mut self.seen) {
             return Err(format!("the event at {at}: {rows:?} and not {event:?}"));
         }
         Ok(())
@@ -310,138 +309,11 @@ pub fn same(call: &str, answer: Answer, expected: Answer) -> Result<(), Differen
 pub const OUTSIDE: &str = "\u{1}outside\u{1}";
 
 /// Whether a name or a value of the event is this.
-fn has(event: &Event, text: &str) -> bool {
+pub fn has(event: &Event, text: &str) -> bool {
     let mut found = false;
     rows::each(event, |row| {
         found |= row.name == Some(text);
         found |= matches!(row.value, Value::Bytes(bytes) if bytes == text.as_bytes());
     });
     found
-}
-
-// ---- what our rows say
-
-fn span(document: &[u8], source: u32, start: u32, len: u32) -> Option<&[u8]> {
-    if source != 0 {
-        return None;
-    }
-    document.get(start as usize..start as usize + len as usize)
-}
-
-/// Whether eight words say a row: every word that it does not use is 0.
-fn row_says(document: &[u8], words: &[u32], row: Row) -> bool {
-    let named = match row.name {
-        None => words[1..4] == [0, 0, 0],
-        Some(name) => span(document, words[1], words[2], words[3]) == Some(name.as_bytes()),
-    };
-    let valued = match row.value {
-        Value::None => words[5..] == [0, 0, 0],
-        Value::Bytes(bytes) => span(document, words[5], words[6], words[7]) == Some(bytes),
-        Value::Word(word) => words[5..] == [0, 0, word],
-        Value::Pair(pair) => words[5..] == [0, (pair >> 32) as u32, pair as u32],
-    };
-    words[0] == row.kind && named && words[4] == row.of && valued
-}
-
-/// Whether the words say the event.
-fn says(document: &[u8], words: &[u32], event: &Event, seen: &mut Seen) -> bool {
-    let mut words = words.chunks_exact(8);
-    let mut all = true;
-    rows::each(event, |row| {
-        seen.kinds[row.kind as usize] += 1;
-        if row.kind == 15 {
-            seen.types[row.of as usize] += 1;
-        }
-        all = all && words.next().is_some_and(|w| row_says(document, w, row));
-    });
-    all && words.next().is_none()
-}
-
-// ---- where the spans lie
-
-/// Walks the fields of an event that the Rust took, and notes each word that the call should write. The Rust has no spans:
-/// these are from the paper.
-pub struct Walk<'a> {
-    pub document: &'a [u8],
-    pub at: usize,
-    pub names: usize,
-    pub pool: &'a mut Lent<u32>,
-    pub rows: &'a mut Lent<u32>,
-    pub written: usize,
-}
-
-impl Walk<'_> {
-    pub fn event(&mut self) {
-        let (command, of) = self.token();
-        match command {
-            0 | 1 => self.row([command, 0, 0, 0, 0, 0, 0, 0]),
-            2 | 3 => {
-                let name = self.name();
-                self.row([command, 0, name[0], name[1], 0, 0, 0, 0]);
-                while command == 2 && self.attribute_follows() {
-                    self.attribute();
-                }
-            }
-            _ => {
-                let text = if of == 2 { self.bytes() } else { [0, 0] };
-                self.row([command, 0, 0, 0, 2, 0, text[0], text[1]]);
-            }
-        }
-    }
-
-    fn attribute(&mut self) {
-        let (_, of) = self.token();
-        let name = self.name();
-        let [a, b] = match of {
-            2 | 4 | 5 => self.bytes(),
-            3 => self.name(),
-            6 | 7 | 10 => [0, self.number(4)],
-            8 | 9 | 11 => [self.number(4), self.number(4)],
-            _ => [0, 0],
-        };
-        let of = if of == 3 { 2 } else { of };
-        self.row([15, 0, name[0], name[1], of, 0, a, b]);
-    }
-
-    fn attribute_follows(&self) -> bool {
-        self.document.get(self.at).is_some_and(|t| t % 16 == 15)
-    }
-
-    fn number(&mut self, bytes: usize) -> u32 {
-        let number = self.document[self.at..self.at + bytes]
-            .iter()
-            .fold(0, |n, b| n << 8 | u32::from(*b));
-        self.at += bytes;
-        number
-    }
-
-    fn token(&mut self) -> (u32, u32) {
-        let token = self.number(1);
-        (token % 16, token / 16)
-    }
-
-    fn bytes(&mut self) -> [u32; 2] {
-        let len = self.number(2);
-        let start = self.at as u32;
-        self.at += len as usize;
-        [start, len]
-    }
-
-    fn name(&mut self) -> [u32; 2] {
-        let index = self.number(2) as usize;
-        if index != 65_535 {
-            return [2 * index, 2 * index + 1].map(|i| self.pool.expected(i));
-        }
-        let pair = self.bytes();
-        if self.names < POOL_LIMIT {
-            self.pool.expect(2 * self.names, &pair);
-            self.names += 1;
-        }
-        pair
-    }
-
-    fn row(&mut self, words: [u32; 8]) {
-        self.rows.expect(self.written, &words);
-        self.written += 8;
-    }
 }

@@ -4,11 +4,12 @@ use android_abx::{events_to_abx, Event};
 use harness::common::map_error;
 
 use crate::documents::HEADER;
-use crate::lent::{unwritten_word, Lent};
+use crate::lent::{unwritten_byte, unwritten_word, Lent};
 use crate::ours::{self, refused, Answer, List};
 use crate::report::{Difference, Seen};
 use crate::rows::{self, Value};
-use crate::slice::{same, Walk, POOL_LIMIT};
+use crate::slice::same;
+use crate::walk::{Walk, POOL_LIMIT};
 
 /// A list as our writer takes it: words that form rows, and the two stores of their spans.
 #[derive(Default)]
@@ -94,10 +95,6 @@ pub struct Writer {
     pub seen: Seen,
 }
 
-fn unwritten_byte(i: usize) -> u8 {
-    0xA5 ^ i as u8
-}
-
 impl Writer {
     pub fn new(len: usize) -> Writer {
         let names = (len / 4 + 4).min(POOL_LIMIT);
@@ -123,6 +120,9 @@ impl Writer {
     pub fn list(&mut self, events: &[Event], calls: Calls) -> Result<(), Difference> {
         self.seen.documents += 1;
         self.seen.events += events.len() as u64;
+        for event in events {
+            rows::each(event, |row| self.seen.row(row.kind, row.of));
+        }
         let stored = Stored::new(events);
         let all = stored.part(0, events.len());
         let bytes = match events_to_abx(events) {
@@ -226,6 +226,7 @@ impl Writer {
             pool,
             rows,
             written: 0,
+            store: None,
         };
         let mut states = vec![State {
             written: 4,
@@ -319,7 +320,13 @@ impl Writer {
         } else {
             ours::write_events
         };
-        let answer = write(state.written, state.names, list, output, pool);
+        let List {
+            first,
+            second,
+            rows,
+        } = list;
+        let (written, names) = (state.written, state.names);
+        let answer = write(written, names, first, second, rows, output, pool);
         let call = if single {
             "write_event"
         } else {

@@ -1,12 +1,16 @@
 // Replays the Rust's stored answers. Standard input has a document a line, in hex, `=` for the empty one. What the slice reader
 // gives of it is printed on a line: its rows in the listing's form, then `end` and the number of events, or `refused` with number
-// and detail, with `|` between them.
+// and detail, with `|` between them. A second line has the same from a chunk reader, which is fed the document in small chunks.
 use event::Shape;
 use libc::STDIN_FILENO;
 use libc::STDOUT_FILENO;
 use slice::Created;
 use slice::Next;
 use slice::Place;
+use stream::Answer;
+use stream::Closed;
+use stream::Fed;
+use stream::Stream;
 use wire::Command;
 use wire::Refusal;
 ghost use Prim.Native.Nat.{_+_, _≤_, _<_};
@@ -56,11 +60,11 @@ fn show_bytes(s: &[u8]) {
     }
 }
 
-fn show_name(document: &[u8], row: Row) {
+fn show_name<'a>(first: &'a [u8], second: &'a [u8], row: Row) {
     let kind = row.kind;
     match kind {
         Command::START_TAG | Command::END_TAG | Command::ATTRIBUTE => {
-            show_bytes(event::text(document, row.name_source, row.name_start, row.name_len));
+            show_bytes(event::span(first, second, row.name_source, row.name_start, row.name_len));
         }
         _ => {
             put(b"-");
@@ -76,11 +80,11 @@ fn show_type(row: Row) {
     }
 }
 
-fn show_value(document: &[u8], row: Row) {
+fn show_value<'a>(first: &'a [u8], second: &'a [u8], row: Row) {
     let shape = event::shape_of(row.type_);
     match shape {
         Shape::String | Shape::Interned | Shape::Blob => {
-            show_bytes(event::text(document, row.source, row.a, row.b));
+            show_bytes(event::span(first, second, row.source, row.a, row.b));
         }
         Shape::Word => {
             io::print_hex(STDOUT_FILENO, row.b as u64, 8);
@@ -95,29 +99,29 @@ fn show_value(document: &[u8], row: Row) {
     }
 }
 
-fn show_row(document: &[u8], row: Row) {
+fn show_row<'a>(first: &'a [u8], second: &'a [u8], row: Row) {
     io::print_decimal(STDOUT_FILENO, row.kind as u64);
     put(b" ");
-    show_name(document, row);
+    show_name(first, second, row);
     put(b" ");
     show_type(row);
     put(b" ");
-    show_value(document, row);
+    show_value(first, second, row);
     put(b"|");
 }
 
-fn show_rows(document: &[u8], rows: &[u32], count: usize) {
+fn show_rows<'a>(first: &'a [u8], second: &'a [u8], rows: &[u32], count: usize) {
     let mut i = 0;
     while i < count {
         if i >= rows.len() / 8 {
             return;
         }
-        show_row(document, row_at(rows, i * 8));
+        show_row(first, second, row_at(rows, i * 8));
         i += 1;
     }
 }
 
-// ---- a document
+// ---- how it ends
 
 fn show_end(events: usize) {
     put(b"end ");
@@ -133,6 +137,8 @@ fn show_refused(refusal: Refusal) {
     put(b"\n");
 }
 
+// ---- a document, by the slice reader
+
 // An event takes a byte at least, so the turns are enough.
 fn show_events(document: &[u8], first: Place, pool: &mut [u32], rows: &mut [u32]) {
     let mut place = first;
@@ -144,7 +150,7 @@ fn show_events(document: &[u8], first: Place, pool: &mut [u32], rows: &mut [u32]
                 rows: count,
                 place: after,
             } => {
-                show_rows(document, rows, count);
+                show_rows(document, document, rows, count);
                 place = after;
             }
             Next::End => {
@@ -160,7 +166,7 @@ fn show_events(document: &[u8], first: Place, pool: &mut [u32], rows: &mut [u32]
     }
 }
 
-fn show_document(document: &[u8]) {
+fn show_at_once(document: &[u8]) {
     let mut pool = [0u32; 256];
     let mut rows = [0u32; 512];
     let created = slice::create(document, &pool);
@@ -172,6 +178,195 @@ fn show_document(document: &[u8]) {
             show_refused(refusal);
         }
     }
+}
+
+// ---- a document, by a chunk reader
+
+// A reader, and how far the document was fed.
+pub struct FedTo {
+    pub stream: Stream,
+    pub at: usize,
+}
+
+// 1, 7 or 64 bytes, by turns.
+fn chunk_size(turn: usize) -> usize
+    ensures { λ r. ⌜ r ≤ 64 ⌝ }
+{
+    match turn % 3 {
+        0 => 1,
+        1 => 7,
+        _ => 64,
+    }
+}
+
+// Where a chunk from `at` on ends.
+fn chunk_end(document: &[u8], at: usize, turn: usize) -> usize
+    requires { ⌜ at ≤ length (now document) ⌝ }
+    ensures { λ r. ⌜ (at ≤ r) × (r ≤ length (now (document .entry))) ⌝ }
+{
+    let size = chunk_size(turn);
+    if document.len() - at < size {
+        return document.len();
+    }
+    at + size
+}
+
+// The next chunk, or the finish where there is none.
+fn feed_more(
+    stream: Stream,
+    window: &mut [u8],
+    pool: &[u32],
+    store: &[u8],
+    document: &[u8],
+    at: usize,
+    turn: usize,
+) -> FedTo
+    requires { ⌜ at ≤ length (now document) ⌝ }
+    ensures { λ r. ⌜ r .at ≤ length (now (document .entry)) ⌝ }
+{
+    if at == document.len() {
+        match stream::finish(stream, window, pool, store) {
+            Closed::Stream(stream) => FedTo { stream, at },
+            Closed::Refused(_) => FedTo { stream, at },
+        }
+    } else {
+        let end = chunk_end(document, at, turn);
+        match stream::feed(stream, window, pool, store, &document[at..end]) {
+            Fed::Took { count, stream } => {
+                if end - at < count {
+                    return FedTo { stream, at: end };
+                }
+                FedTo {
+                    stream,
+                    at: at + count,
+                }
+            }
+            Fed::Refused(_) => FedTo { stream, at },
+        }
+    }
+}
+
+// How far a document was fed, the events that came, and whether more may come.
+pub struct Progress {
+    pub stream: Stream,
+    pub at: usize,
+    pub events: usize,
+    pub more: bool,
+}
+
+fn take_turn(
+    document: &[u8],
+    sofar: Progress,
+    turn: usize,
+    window: &mut [u8],
+    pool: &mut [u32],
+    store: &mut [u8],
+    rows: &mut [u32],
+) -> Progress
+    requires { ⌜ sofar .at ≤ length (now document) ⌝ }
+    requires { ⌜ sofar .events ≤ turn ⌝ }
+    requires { ⌜ turn < 6_010 ⌝ }
+    ensures { λ r. ⌜ (r .at ≤ length (now (document .entry))) × (r .events ≤ turn + 1) ⌝ }
+{
+    let before = sofar.stream;
+    let next = stream::next(before, window, pool, store, rows);
+    match next {
+        Answer::Event {
+            rows: count,
+            stream,
+        } => {
+            show_rows(window, store, rows, count);
+            Progress {
+                stream,
+                at: sofar.at,
+                events: sofar.events + 1,
+                more: true,
+            }
+        }
+        Answer::NeedMore(stream) => {
+            let fed = feed_more(stream, window, pool, store, document, sofar.at, turn);
+            let after = fed.stream;
+            Progress {
+                stream: after,
+                at: fed.at,
+                events: sofar.events,
+                more: true,
+            }
+        }
+        Answer::End(stream) => {
+            show_end(sofar.events);
+            Progress {
+                stream,
+                at: sofar.at,
+                events: sofar.events,
+                more: false,
+            }
+        }
+        Answer::Refused(refusal) => {
+            show_refused(refusal);
+            Progress {
+                stream: before,
+                at: sofar.at,
+                events: sofar.events,
+                more: false,
+            }
+        }
+    }
+}
+
+// Enough for a line of 3,000 bytes: a turn takes an event of a byte or more, or feeds a byte or more.
+const TURNS: usize = 6_010;
+
+fn show_chunks(
+    document: &[u8],
+    first: Stream,
+    window: &mut [u8],
+    pool: &mut [u32],
+    store: &mut [u8],
+    rows: &mut [u32],
+) {
+    let mut progress = Progress {
+        stream: first,
+        at: 0,
+        events: 0,
+        more: true,
+    };
+    let mut turn = 0;
+    while turn < TURNS {
+        if !progress.more {
+            return;
+        }
+        progress = take_turn(document, progress, turn, window, pool, store, rows);
+        turn += 1;
+    }
+}
+
+fn show_in_chunks(document: &[u8]) {
+    let mut window = [0u8; 128];
+    let mut pool = [0u32; 256];
+    let mut store = [0u8; 256];
+    let mut rows = [0u32; 512];
+    let created = stream::create(&window, &pool, &store);
+    match created {
+        stream::Created::Stream(stream) => {
+            show_chunks(
+                document,
+                stream,
+                &mut window,
+                &mut pool,
+                &mut store,
+                &mut rows,
+            );
+        }
+        stream::Created::Refused(refusal) => {
+            show_refused(refusal);
+        }
+    }
+}
+
+fn show_document(document: &[u8]) {
+    show_at_once(document);
+    show_in_chunks(document);
 }
 
 // ---- lines

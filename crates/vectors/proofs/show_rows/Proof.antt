@@ -4,10 +4,10 @@ use Rattle.vectors.proofs.show_rows.Statement.{statement}
 use Rattle.vectors.proofs.show_rows.Tie as tie
 
 abbrev Inv-loop : tie.InvT-loop
-Inv-loop document rows count i₀ i = i ≤ count
+Inv-loop first second rows count i₀ i = i ≤ count
 
 abbrev μ-loop : tie.MeasureT-loop
-μ-loop document rows count i₀ i = count - i
+μ-loop first second rows count i₀ i = count - i
 
 loop-holds : tie.Need-loop-holds Inv-loop μ-loop
 loop-holds c = search needs
