@@ -1,11 +1,13 @@
 //! Holds the static library against the Rust, document by document: `compare short|long [SEED [PART...]]`, where a part is slice,
-//! writer or stream, and none means all. `compare vectors` prints the documents whose answers are stored.
+//! writer, stream or queries, and none means all. `compare vectors` prints the documents whose answers are stored.
 
 mod calls;
 mod chunks;
 mod documents;
 mod lent;
 mod ours;
+mod ours_queries;
+mod queries;
 mod report;
 mod rows;
 mod slice;
@@ -343,5 +345,11 @@ fn main() -> ExitCode {
         chunks::chunk_reader(&mut report, long, random);
         refusals.extend((1..=13).chain(17..=19));
     }
+    if asked("queries") {
+        queries::queries(&mut report, long, random);
+        refusals.extend([10, 11, 17, 19]);
+    }
+    refusals.sort();
+    refusals.dedup();
     report.finish(&refusals)
 }

@@ -92,7 +92,7 @@ pub fn span<'a>(stores: &[&'a [u8]], words: &[u32]) -> Option<&'a [u8]> {
 }
 
 /// Whether eight words say a row: every word that it does not use is 0.
-fn row_says(stores: &[&[u8]], words: &[u32], row: Row) -> bool {
+pub fn row_says(stores: &[&[u8]], words: &[u32], row: Row) -> bool {
     let named = match row.name {
         None => words[1..4] == [0, 0, 0],
         Some(name) => span(stores, &words[1..4]) == Some(name.as_bytes()),

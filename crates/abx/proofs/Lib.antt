@@ -1,1 +1,2 @@
 mod Left
+mod Queried

@@ -2,6 +2,8 @@
 // length. An answer is four words, and is written where there is room for four: 0 and what was asked for; 1 at the end; 2, a
 // refusal's number and its detail; or 3 where a chunk reader needs more. A chunk reader's state is six words that each call is
 // lent: start, end, names, bytes, and 0 or 1 for a header passed and for a finish. A call that is not refused leaves the new state there.
+mod queries;
+
 use slice::Created;
 use slice::Next;
 use slice::Place;
