@@ -5,7 +5,7 @@
 //! else's where they are written. Each function below gets its pointers and lengths from Rust references that it borrows until it returns,
 //! and those are just that: they do not overlap where one is `&mut`, and are aligned and not null even where the length is 0. The
 //! functions keep no pointer, have no state of their own, do not unwind, and write nothing but words, of which every value is valid.
-//! A call of the writer takes 1.4 MB of stack, which it touches page by page, so that too small a stack ends in its guard page.
+//! A call of the writer takes 1.6 MB of stack, which it touches page by page, so that too small a stack ends in its guard page.
 //!
 //! Counts and places come back as words. They are proved to lie in range, and are looked at here again, so that safe code can rely on them
 //! whatever library is linked: what is out of range is [`AbxError::BadAnswer`].

@@ -26,10 +26,7 @@ use Rattle.slice_spec.specs.Stored.{words-front}
 use Rattle.slice_spec.specs.Turns.{Turn, passed, halted, passing, turnBy, turn, turnOrRefuse}
 use Rattle.scanner.specs.declared.Pool.{Pool}
 use Rattle.scanner.specs.Tally.{limit}
-use Rattle.scanner.specs.declared.quick.Taken.{Taken}
 use Rattle.scanner.specs.Keep.{Keepable}
-use Rattle.scanner.specs.Step.{Quickly, declined}
-use Rattle.scanner.specs.Step as Step
 use Rattle.scanner.proofs.Walk.{soundOf}
 use Rattle.scanner.proofs.Passes.{complete-ended}
 use Rattle.scanner.specs.declared.select.Query.{Query}
@@ -392,13 +389,10 @@ module _ (document : List ℕ) (p : Place) (table : List ℕ) (count added : ℕ
 
 -- ---- the event at a place
 
-pub lent-fits : (document : List ℕ) (p : Place) (table : List ℕ) → Fits p document table → p .at + length (take (length document - p .at) (drop (p .at) document)) ≤ limit
-lent-fits document p table r =
+pub lent-small : (document : List ℕ) (p : Place) (table : List ℕ) → Fits p document table → length (take (length document - p .at) (drop (p .at) document)) ≤ limit
+lent-small document p table r =
     let l = length-drop (p .at) document in
     omega (arith, ap length (take-all (length document - p .at) (drop (p .at) document) (omega arith)), r .at-fits, r .document-small)
-
-pub lent-small : (document : List ℕ) (p : Place) (table : List ℕ) → Fits p document table → length (take (length document - p .at) (drop (p .at) document)) ≤ limit
-lent-small document p table r = omega (arith, lent-fits document p table r)
 
 module _ (q : Query) (element name document : List ℕ) (p : Place) (table rows : List ℕ) (events written : ℕ) where
   abbrev at-place : Items
@@ -435,18 +429,6 @@ module _ (q : Query) (element name document : List ℕ) (p : Place) (table rows 
   unfolding itemsAt
   lent-event =
       ap (event (sound (p .names) table (length document)) (p .names)) (take-all (length document - p .at) (drop (p .at) document) (omega (arith, length-drop (p .at) document)))
-
-  -- what one pass read
-  module _ (r : Fits p document table) (ws ws′ : List ℕ) (t : Taken) (e : Quickly Lent (p .names) 0 (p .at) table ws ws′ t) (some-bytes : t .len ≡ 0 → ⊥) where
-    quickly : (is : Items) → Quickly is (p .names) 0 (p .at) table ws ws′ t → (outcome true is ≡ complete (t .len)) × (t .rows ≡ Scan.count is) × (0 ≡ length (adds (p .names) is))
-    quickly is (declined z _) = absurd (some-bytes z)
-    quickly is (Step.taken _ o c _ a _) = (o true, sym c, sym (ap length a))
-
-    pub quick-whole : Whole document p table at-place (t .rows) 0
-    quick-whole = let k = quickly at-place (rw lent-event at e) in whole-by r (t .len) (t .rows) 0 (k .0) (k .1) (k .2)
-
-    pub turned-quickly : (x : Turn) → x ≡ passing so-far (kindOf at-place) (t .len) (adds (p .names) at-place) (asked q element name document p table at-place) → x ≡ Turned
-    turned-quickly x h = turned-by (t .len) (quickly at-place (rw lent-event at e) .0) x h
 
   -- what the first pass measured
   module _ (r : Fits p document table) (m : Measure)

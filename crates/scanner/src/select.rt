@@ -560,25 +560,6 @@ fn pick_at(
         stored: document.len(),
         names,
     };
-    let mut words = [0u32; 80];
-    let taken = crate::read_quickly(&document[at..], at, false, table, pool, &mut words);
-    if taken.len != 0 {
-        return pick_read(
-            query,
-            element,
-            name,
-            document,
-            at,
-            names,
-            &tokens,
-            table,
-            rows,
-            written,
-            taken.rows,
-            0,
-            taken.len,
-        );
-    }
     let m = crate::measure(&document[at..], true, &tokens, table, pool);
     let outcome = m.outcome;
     match outcome {
