@@ -1,6 +1,5 @@
 -- The rows of an event that a query takes, one after another.
 use mathlib.Core.Bool.{Bool, true, false, _||_, _&&_, cond}
-use mathlib.Core.Option.{Option}
 use mathlib.Core.List.{List, [], _∷_, _++_, append-nil, append-assoc}
 use mathlib.Core.Path.{_≡_, refl, sym, ap, _∙_}
 use Prim.Native.Nat.{ℕ, suc, _+_, _*_, _≤_, _<_}
@@ -8,13 +7,13 @@ use native.Mathlib.Nat.{add-zero}
 use native.Mathlib.Omega.{arith}
 use borrow.Author.Tests.{eq-eqb, ne-eqb, eqb-true, eqb-false}
 use lib.Dec.{eqb, leb}
-use lib.ListN.{length, take, drop, length-append}
+use lib.ListN.{length, take, length-append}
 use lib.Seq.{sets, length-sets, take-nil, drop-nil}
 use Rattle.wire.specs.Token as Token
 use Rattle.event.specs.Span.{part, span, text, same}
 use Rattle.event.specs.Row.{hasName, rowAt}
 use Rattle.grammar.specs.Reader.{got}
-use Rattle.grammar.specs.Grammar.{Item, Items, item, whole, lacks, stops, after, first, event}
+use Rattle.grammar.specs.Grammar.{Item, Items, item, whole, after, first, event}
 use Rattle.grammar.specs.Scan.{sound, addsItem, adds, nameWords, itemWords}
 use Rattle.grammar.specs.Choice.{byTest, cond-by}
 use Rattle.grammar.specs.Said.{item-length}

@@ -1,6 +1,6 @@
 -- One event of a query, from what is taken of it to the turn that the definition makes.
 use mathlib.Core.Bool.{Bool, true, false, _||_, cond}
-use mathlib.Core.List.{List, [], _∷_, _++_, append-nil, append-assoc}
+use mathlib.Core.List.{List, [], _∷_, _++_, append-nil}
 use mathlib.Core.Option.{Option, none, some}
 use mathlib.Core.Path.{_≡_, refl, sym, ap, _∙_, fun-ext}
 use Prim.Native.Nat.{ℕ, suc, _+_, _*_, _-_, _/_, _≤_, _<_}
@@ -10,7 +10,7 @@ use lib.Dec.{ltb}
 use lib.ListN.{length, take, drop, getD, length-append, length-drop, List·getD-append, take-append-drop}
 use lib.Seq.{sets, take-all, sets-eq, length-sets, length-take-le, take-at, drop-at, getD-take}
 use Rattle.wire.specs.Refusal.{rowsFull, poolFull, badSize, badState}
-use Rattle.grammar.specs.Grammar.{Span, Ref, new, known, Value, Item, Items, item, whole, lacks, stops, most, counted, countedName, countedValue, after, event}
+use Rattle.grammar.specs.Grammar.{Span, Ref, new, known, Value, Items, item, whole, lacks, stops, most, counted, countedName, countedValue, after, event}
 use Rattle.grammar.specs.Added.{after-adds}
 use Rattle.grammar.specs.Scan.{sound, addsItem, adds, pairs, itemWords, words, complete, incomplete, bad, outcome, Measure, measure}
 use Rattle.grammar.specs.Scan as Scan
@@ -19,8 +19,7 @@ use Rattle.grammar.specs.Said.{item-length}
 use Rattle.grammar.specs.Laws.{Agree, agree-event}
 use Rattle.grammar.specs.Stores.{sound-sets, pairs-length}
 use Rattle.slice_spec.specs.Slice.{Place, sizesBad, placeBad, itemsAt, tableAfter, placeAfter}
-use Rattle.slice_spec.specs.Queries as Defined
-use Rattle.slice_spec.specs.Queries.{Words, split, named, isElement, allNamed, firstNamed, picks, picked, concat, Progress, past, kindOf, tableWith, writes, done, refused}
+use Rattle.slice_spec.specs.Queries.{Words, split, named, isElement, allNamed, firstNamed, picks, picked, Progress, past, kindOf, tableWith, writes, done, refused}
 use Rattle.slice_spec.specs.Bounds.{Fits}
 use Rattle.slice_spec.specs.Stored.{words-front}
 use Rattle.slice_spec.specs.Turns.{Turn, passed, halted, passing, turnBy, turn, turnOrRefuse}
@@ -31,7 +30,7 @@ use Rattle.scanner.proofs.Walk.{soundOf}
 use Rattle.scanner.proofs.Passes.{complete-ended}
 use Rattle.scanner.specs.declared.select.Query.{Query}
 use Rattle.scanner.specs.declared.select.Query.the-variants as Query
-use Rattle.scanner.specs.Select.{queryOf, takesAll, takesOne, rowsOf, taken, chosen, asked, faultOf, Room, Chose, Whole, Handed, progress}
+use Rattle.scanner.specs.Select.{queryOf, takesOne, rowsOf, taken, chosen, asked, faultOf, Room, Whole, Handed, progress}
 
 -- ---- what the definition picks, and what the code takes
 

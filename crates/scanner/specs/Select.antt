@@ -19,7 +19,6 @@ use Rattle.scanner.specs.declared.select.Query.{Query}
 use Rattle.scanner.specs.declared.select.Query.the-variants as Query
 use Rattle.scanner.specs.declared.select.Picked.{Picked}
 use Rattle.scanner.specs.declared.select.Picked.the-variants as Picked
-use Rattle.scanner.specs.declared.Pool.{Pool}
 use Rattle.scanner.specs.Tally.{limit}
 
 -- ---- the query

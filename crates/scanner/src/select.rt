@@ -5,8 +5,8 @@ use crate::Outcome;
 use crate::Pool;
 use wire::Command;
 use wire::Refusal;
-ghost use mathlib.Core.Bool.{Bool, true, false, _||_, cond};
-ghost use mathlib.Core.List.{[], _∷_, _++_};
+ghost use mathlib.Core.Bool.{true, false, _||_, cond};
+ghost use mathlib.Core.List.{[], _∷_};
 ghost use mathlib.Core.Path.{_≡_};
 ghost use Prim.Native.Nat.{ℕ, _+_, _*_, _-_, _/_, _≤_, _<_};
 ghost use lib.ListN.{length};
@@ -14,19 +14,20 @@ ghost use lib.Seq.{sets};
 ghost use Rattle.wire.specs.Token.{builtIn};
 ghost use Rattle.grammar.specs.Grammar.{attributesF, event};
 ghost use Rattle.grammar.specs.Scan.{sound, itemWords, adds, pairs, outcome};
-ghost use Rattle.slice_spec.specs.Queries.{named, isElement, concat, kindOf};
+ghost use Rattle.slice_spec.specs.Queries.{named, isElement, kindOf};
 ghost use Rattle.scanner.specs.Answers.{itemOf};
-ghost use Rattle.scanner.specs.Keep.{NamePlaced, ItemPlaced, Keepable};
+ghost use Rattle.scanner.specs.Keep.{ItemPlaced, Keepable};
 ghost use Rattle.slice_spec.specs.Slice.{sizesBad, placeBad, itemsAt};
 ghost use Rattle.slice_spec.specs.Bounds.{Fits};
 ghost use Rattle.slice_spec.specs.Turns.{passing, turnBy, turnOrRefuse};
 ghost use Rattle.scanner.specs.Select.{queryOf, asked, faultOf, Whole, Handed, progress, turnOf, takesAll, takesOne, taken, chosen, rowsOf, Room, Chose};
 
-// What is asked for: attributes of a name, of elements of a name; or such elements with all their attributes.
+// The longest document, in bytes, and the longest pool table, in words.
 const LIMIT: usize = 16_777_216;
 
 const MAX_TABLE: usize = 131_070;
 
+// What is asked for: attributes of a name, of elements of a name; or such elements with all their attributes.
 pub enum Query {
     FindAttribute,
     AttributesOf,

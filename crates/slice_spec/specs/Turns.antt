@@ -9,7 +9,6 @@ use Rattle.wire.specs.Token.{endDocument}
 use Rattle.wire.specs.Refusal.{rowsFull, poolFull, badSize, badState}
 use Rattle.grammar.specs.Grammar.{Span, Items}
 use Rattle.grammar.specs.Scan.{adds, Outcome, complete, incomplete, bad, outcome}
-use Rattle.grammar.specs.Choice.{byTest}
 use Rattle.slice_spec.specs.Slice.{sizesBad, placeBad, itemsAt}
 use Rattle.slice_spec.specs.Queries.{Query, find-attribute, attributes-of, find-all-attributes, all-attributes-of, Words, Ending, found, done, refused, Step, on, stop, single, after, Progress, Left, ends, past, byStep, consume, kindOf, writes, byOutcome, queryF}
 

@@ -7,8 +7,6 @@ use lib.ListN.{length, take, length-set}
 use lib.Seq.{sets}
 use Rattle.scanner.proofs.put_words.Statement.{statement}
 use Rattle.scanner.proofs.put_words.Tie as tie
-use Rattle.scanner.proofs.put_words.Reads as reads
-use Rattle.scanner.proofs.put_words.Lts as lts
 
 abbrev Inv-loop : tie.InvT-loop
 Inv-loop rows₀ words n i₀ rows i = (i ≤ n) × (length rows ≡ length rows₀) × (rows ≡ sets rows₀ 0 (take i words))
@@ -16,35 +14,27 @@ Inv-loop rows₀ words n i₀ rows i = (i ≤ n) × (length rows ≡ length rows
 abbrev μ-loop : tie.MeasureT-loop
 μ-loop rows₀ words n i₀ rows i = n - i
 
--- src/lib.rt:1166:5
 loop-holds : tie.Need-loop-holds Inv-loop μ-loop
 loop-holds c = (omega arith, refl, refl)
 
--- src/lib.rt:1167:19
 mul-rows : tie.Need-mul-rows Inv-loop μ-loop
 mul-rows c = search needs
 
--- src/lib.rt:1167:19
 shared-slice-read-rows : tie.Need-shared-slice-read-rows Inv-loop μ-loop
 shared-slice-read-rows c = search needs
 
--- src/lib.rt:1167:9
 mul-rows-2 : tie.Need-mul-rows-2 Inv-loop μ-loop
 mul-rows-2 c = search needs
 
--- src/lib.rt:1167:9
 slice-write-rows : tie.Need-slice-write-rows Inv-loop μ-loop
 slice-write-rows c = let l = c .before .before .loop in omega (arith, l .inv .1, c .before .before .before .pre .1)
 
--- src/lib.rt:1168:9
 add-i : tie.Need-add-i Inv-loop μ-loop
 add-i c = search needs
 
--- src/lib.rt:1166:5
 loop-less : tie.Need-loop-less Inv-loop μ-loop
 loop-less c = search needs
 
--- src/lib.rt:1166:5
 loop-again : tie.Need-loop-again Inv-loop μ-loop
 loop-again c =
     let l = c .before .before .loop in
@@ -52,11 +42,9 @@ loop-again c =
     let p = c .before .before .before .pre in
     (omega arith, simp length-set (l .inv .1), words-turn (a .words .now) (a .rows .now) (a .n) (l .i) (l .rows) (p .0) (omega arith) (l .inv .2))
 
--- src/lib.rt:1160:1
 same-length : tie.Need-same-length Inv-loop μ-loop
 same-length c = c .before .loop .inv .1
 
--- src/lib.rt:1160:1
 returns : tie.Need-returns Inv-loop μ-loop
 returns c =
     let l = c .before .loop in

@@ -4,15 +4,6 @@ use Rattle.scanner.proofs.Stepping.{step-long, step-outside, step-ready
 use borrow.Author.Needs.{needs}
 use Rattle.scanner.proofs.step.Statement.{statement}
 use Rattle.scanner.proofs.step.Tie as tie
-use Rattle.scanner.proofs.step.Reads as reads
-use Rattle.scanner.proofs.step.Lts as lts
-use Rattle.scanner.proofs.is_outside.Reads as is-outside-reads
-use Rattle.scanner.proofs.is_too_long.Reads as is-too-long-reads
-use Rattle.scanner.proofs.read.Reads as read-reads
-use Rattle.scanner.proofs.read_quickly.Reads as read-quickly-reads
-use Rattle.scanner.proofs.stored_in.Reads as stored-in-reads
-use Rattle.wire.proofs.Refusal.new.Reads as new-reads
-use Rattle.wire.proofs.tokens.built_in.Reads as built-in-reads
 use native.Mathlib.Omega.{arith}
 use lib.ListN.{length}
 

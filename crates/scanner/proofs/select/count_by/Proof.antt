@@ -1,6 +1,5 @@
 use native.Mathlib.Omega.{arith}
-use mathlib.Core.Path.{_≡_, refl, sym, ap, _∙_}
-use mathlib.Core.List.{List}
+use mathlib.Core.Path.{_≡_, refl, ap, _∙_}
 use Prim.Native.Nat.{ℕ}
 use lib.ListN.{length}
 use Rattle.slice_spec.specs.Slice.{Place}
@@ -8,33 +7,22 @@ use Rattle.scanner.proofs.Picking.{copy-begins, copy-sounds, copy-room,
 use borrow.Author.Needs.{needs}
 use Rattle.scanner.proofs.select.count_by.Statement.{statement}
 use Rattle.scanner.proofs.select.count_by.Tie as tie
-use Rattle.scanner.proofs.select.count_by.Reads as reads
-use Rattle.scanner.proofs.select.count_by.Lts as lts
-use Rattle.scanner.proofs.select.take_event.Reads as take-event-reads
-use Rattle.scanner.proofs.keep.Reads as keep-reads
-use Rattle.scanner.proofs.put_words.Reads as put-words-reads
 
--- src/select.rt:292:13
 sub-s : tie.Need-sub-s
 sub-s c = search needs
 
--- src/select.rt:292:13
 part-s-start : tie.Need-part-s-start
 part-s-start c = search needs
 
--- src/select.rt:292:13
 part-s-end : tie.Need-part-s-end
 part-s-end c = search needs
 
--- src/select.rt:298:36
 mul-put-words : tie.Need-mul-put-words
 mul-put-words c = search needs
 
--- src/select.rt:298:5
 put-words-requires : tie.Need-put-words-requires
 put-words-requires c κs = search needs
 
--- src/select.rt:299:5
 keep-requires : tie.Need-keep-requires
 keep-requires c κs =
     let a = c .before .before .before .before .before .before .before .before .before .before .before .args in
@@ -47,11 +35,9 @@ keep-requires c κs =
     let room = copy-room (a .document .now) pl (a .table .now) (a .count) (a .added) w own _ (p .0) (c .before .before .before .put-words .ensures) in
     (p .1 .0, keepable (a .document .now) pl (a .table .now) (a .count) (a .added) w _ sounds room)
 
--- src/select.rt:302:74
 slice-aggregate-take-event : tie.Need-slice-aggregate-take-event
 slice-aggregate-take-event c = search needs
 
--- src/select.rt:301:9
 take-event-requires : tie.Need-take-event-requires
 take-event-requires c κs =
     let a = c .before .before .before .before .before .before .before .before .before .before .before .before .before .before .before .before .args in
@@ -65,11 +51,9 @@ take-event-requires c κs =
     let k = stored-keepable (a .document .now) pl (a .table .now) (a .count) (a .added) w _ begins sounds room _ (c .before .before .before .before .keep .ensures) in
     (p .1 .0, (k, (record { fits = λ t. absurd (let z : _≡_ {A = ℕ} 0 1 = cc t in omega arith); sized = omega arith; counts = λ _. omega arith }, λ _. refl)))
 
--- src/select.rt:274:1
 same-length : tie.Need-same-length
 same-length c = search needs
 
--- src/select.rt:274:1
 returns : tie.Need-returns
 returns c =
     let a = c .before .before .before .before .before .before .before .before .before .before .before .before .before .before .before .before .before .before .args in

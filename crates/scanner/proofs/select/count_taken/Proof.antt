@@ -1,6 +1,5 @@
 use native.Mathlib.Omega.{arith}
-use mathlib.Core.Path.{_≡_, refl, sym, ap, _∙_}
-use mathlib.Core.List.{List}
+use mathlib.Core.Path.{_≡_, refl, ap, _∙_}
 use Prim.Native.Nat.{ℕ}
 use lib.ListN.{length}
 use Rattle.slice_spec.specs.Slice.{Place}
@@ -8,28 +7,19 @@ use Rattle.scanner.proofs.Picking.{kept-keepable, kept-rows, asked-by}
 use borrow.Author.Needs.{needs}
 use Rattle.scanner.proofs.select.count_taken.Statement.{statement}
 use Rattle.scanner.proofs.select.count_taken.Tie as tie
-use Rattle.scanner.proofs.select.count_taken.Reads as reads
-use Rattle.scanner.proofs.select.count_taken.Lts as lts
-use Rattle.scanner.proofs.select.count_by.Reads as count-by-reads
-use Rattle.scanner.proofs.select.take_event.Reads as take-event-reads
 
--- src/select.rt:336:13
 sub-take-event : tie.Need-sub-take-event
 sub-take-event c = search needs
 
--- src/select.rt:336:13
 part-take-event-start : tie.Need-part-take-event-start
 part-take-event-start c = search needs
 
--- src/select.rt:336:13
 part-take-event-end : tie.Need-part-take-event-end
 part-take-event-end c = search needs
 
--- src/select.rt:342:13
 slice-aggregate-take-event : tie.Need-slice-aggregate-take-event
 slice-aggregate-take-event c = search needs
 
--- src/select.rt:331:13
 take-event-requires : tie.Need-take-event-requires
 take-event-requires c κs =
     let a = c .before .before .before .before .before .before .before .args in
@@ -38,7 +28,6 @@ take-event-requires c κs =
     let w = p .1 in
     (p .0, (kept-keepable (a .document .now) pl (a .table .now) (a .count) (a .added) w (c .before .before .if1 .taken), (record { fits = λ t. absurd (let z : _≡_ {A = ℕ} 0 1 = cc t in omega arith); sized = omega arith; counts = λ _. omega arith }, λ _. refl)))
 
--- src/select.rt:345:9
 returns : tie.Need-returns
 returns c =
     let a = c .before .before .before .before .before .before .before .before .before .args in
@@ -47,11 +36,9 @@ returns c =
     let w = p .1 in
     c .before .take-event .ensures .0 .counted ∙ ap length (asked-by (a .document .now) pl (a .table .now) (a .count) (a .added) w (a .query) (a .element .now) (a .name .now) _ _ (kept-rows (a .document .now) pl (a .table .now) (a .count) (a .added) w (c .before .before .before .before .if1 .taken)))
 
--- src/select.rt:349:9
 slice-aggregate-count-by : tie.Need-slice-aggregate-count-by
 slice-aggregate-count-by c = search needs
 
--- src/select.rt:348:5
 count-by-requires : tie.Need-count-by-requires
 count-by-requires c κs =
     let a = c .before .before .before .before .before .before .args in
@@ -60,7 +47,6 @@ count-by-requires c κs =
     let w = p .1 in
     (omega arith, (p .0, w))
 
--- src/select.rt:308:1
 returns-2 : tie.Need-returns-2
 returns-2 c = search needs
 

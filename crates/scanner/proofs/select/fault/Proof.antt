@@ -1,8 +1,5 @@
 use native.Mathlib.Omega.{arith}
-use mathlib.Core.Path.{_≡_, refl, sym, ap, _∙_}
-use mathlib.Core.List.{List}
-use Prim.Native.Nat.{ℕ}
-use lib.ListN.{length}
+use mathlib.Core.Path.{sym}
 use borrow.Author.Tests.{lt-ltb, le-ltb}
 use Rattle.slice_spec.specs.Slice.{Place}
 use Rattle.scanner.specs.Select.{faultOf}
@@ -10,12 +7,7 @@ use Rattle.scanner.proofs.Picking.{no-fault}
 use borrow.Author.Needs.{needs}
 use Rattle.scanner.proofs.select.fault.Statement.{statement}
 use Rattle.scanner.proofs.select.fault.Tie as tie
-use Rattle.scanner.proofs.select.fault.Reads as reads
-use Rattle.scanner.proofs.select.fault.Lts as lts
-use Rattle.scanner.proofs.select.count_taken.Reads as count-taken-reads
-use Rattle.scanner.proofs.select.most_taken.Reads as most-taken-reads
 
--- src/select.rt:381:17
 sub-pairs : tie.Need-sub-pairs
 sub-pairs c =
     let a = c .before .before .before .before .args in
@@ -24,11 +16,9 @@ sub-pairs c =
     let w = p .1 in
     omega (arith, w .names-fit)
 
--- src/select.rt:382:8
 most-taken-requires : tie.Need-most-taken-requires
 most-taken-requires c κs = search needs
 
--- src/select.rt:384:13
 returns : tie.Need-returns
 returns c =
     let a = c .before .before .before .before .before .before .before .args in
@@ -37,11 +27,9 @@ returns c =
     let w = p .1 in
     no-fault (a .document .now) pl (a .table .now) (a .count) (a .added) w (a .query) (a .element .now) (a .name .now) (a .left) (omega (arith, c .before .before .most-taken .ensures, c .before .if1 .taken)) (c .if2 .taken)
 
--- src/select.rt:387:9
 count-taken-requires : tie.Need-count-taken-requires
 count-taken-requires c κs = search needs
 
--- src/select.rt:391:9
 returns-2 : tie.Need-returns-2
 unfolding faultOf
 returns-2 c =
@@ -51,7 +39,6 @@ returns-2 c =
     let w = p .1 in
     rw (sym (c .before .count-taken .ensures), lt-ltb _ _ (c .if3 .taken))
 
--- src/select.rt:394:9
 returns-3 : tie.Need-returns-3
 unfolding faultOf
 returns-3 c =
@@ -61,7 +48,6 @@ returns-3 c =
     let w = p .1 in
     rw (sym (c .before .before .count-taken .ensures), le-ltb _ _ (c .before .if3 .left), lt-ltb _ _ (c .if4 .taken))
 
--- src/select.rt:364:1
 returns-4 : tie.Need-returns-4
 unfolding faultOf
 returns-4 c =

@@ -1,6 +1,5 @@
 use native.Mathlib.Omega.{arith}
-use mathlib.Core.Path.{_≡_, refl, sym, ap, _∙_}
-use mathlib.Core.List.{List}
+use mathlib.Core.Path.{_≡_, refl, ap, _∙_}
 use Prim.Native.Nat.{ℕ}
 use lib.ListN.{length}
 use Rattle.slice_spec.specs.Slice.{Place}
@@ -8,24 +7,16 @@ use Rattle.scanner.proofs.Picking.{more-room, added-are, keepable, stor
 use borrow.Author.Needs.{needs}
 use Rattle.scanner.proofs.select.hand_out.Statement.{statement}
 use Rattle.scanner.proofs.select.hand_out.Tie as tie
-use Rattle.scanner.proofs.select.hand_out.Reads as reads
-use Rattle.scanner.proofs.select.hand_out.Lts as lts
-use Rattle.scanner.proofs.select.take_event.Reads as take-event-reads
-use Rattle.scanner.proofs.select.keep_added.Reads as keep-added-reads
 
--- src/select.rt:420:13
 sub-s : tie.Need-sub-s
 sub-s c = search needs
 
--- src/select.rt:420:13
 part-s-start : tie.Need-part-s-start
 part-s-start c = search needs
 
--- src/select.rt:420:13
 part-s-end : tie.Need-part-s-end
 part-s-end c = search needs
 
--- src/select.rt:426:5
 keep-added-requires : tie.Need-keep-added-requires
 keep-added-requires c κs =
     let a = c .before .before .before .before .before .before .before .args in
@@ -35,7 +26,6 @@ keep-added-requires c κs =
     let room = more-room (a .document .now) pl (a .table .now) (a .count) (a .added) w (p .1 .1 .0) in
     (p .0, (keepable (a .document .now) pl (a .table .now) (a .count) (a .added) w _ refl room, added-are (a .document .now) pl (a .table .now) (a .count) (a .added) w _ refl))
 
--- src/select.rt:439:9
 mul-take-event : tie.Need-mul-take-event
 mul-take-event c =
     let a = c .before .before .before .before .before .before .before .before .before .before .before .before .args in
@@ -45,7 +35,6 @@ mul-take-event c =
     let room = more-room (a .document .now) pl (a .table .now) (a .count) (a .added) w (p .1 .1 .0) in
     omega (arith, p .1 .1 .1 .fits refl, p .1 .1 .1 .sized)
 
--- src/select.rt:427:5
 take-event-requires : tie.Need-take-event-requires
 take-event-requires c κs =
     let a = c .before .before .before .before .before .before .before .before .before .before .before .before .args in
@@ -57,15 +46,12 @@ take-event-requires c κs =
     let n = ap length (asked-by (a .document .now) pl (a .table .now) (a .count) (a .added) w (a .query) (a .element .now) (a .name .now) _ _ (stored-rows (a .document .now) pl (a .table .now) (a .count) (a .added) w _ refl refl room _ (c .before .before .before .before .keep-added .ensures))) in
     (p .0, (k, (rw n (p .1 .1 .1), (λ t. absurd (let z : _≡_ {A = ℕ} 0 1 = cc t in omega arith)))))
 
--- src/select.rt:400:1
 same-length : tie.Need-same-length
 same-length c = search needs
 
--- src/select.rt:400:1
 same-length-2 : tie.Need-same-length-2
 same-length-2 c = search needs
 
--- src/select.rt:400:1
 returns : tie.Need-returns
 returns c =
     let a = c .before .before .before .before .before .before .before .before .before .before .before .before .before .before .before .args in

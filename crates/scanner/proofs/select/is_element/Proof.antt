@@ -3,21 +3,15 @@ use Rattle.scanner.proofs.Choosing.{element-by, element-not}
 use borrow.Author.Needs.{needs}
 use Rattle.scanner.proofs.select.is_element.Statement.{statement}
 use Rattle.scanner.proofs.select.is_element.Tie as tie
-use Rattle.scanner.proofs.select.is_element.Reads as reads
-use Rattle.scanner.proofs.select.is_element.Lts as lts
-use Rattle.scanner.proofs.select.is_named.Reads as is-named-reads
 
--- src/select.rt:54:9
 is-named-requires : tie.Need-is-named-requires
 is-named-requires c κs = search needs
 
--- src/select.rt:54:9
 returns : tie.Need-returns
 returns c =
     let a = c .before .before .before .before .before .before .args in
     element-by (a .document .now) (a .element .now) (a .base) (a .table .now) (itemOf (a .item)) _ (c .before .if1 .taken) (c .is-named .ensures)
 
--- src/select.rt:49:1
 returns-2 : tie.Need-returns-2
 returns-2 c =
     let a = c .before .before .before .before .before .args in

@@ -1,4 +1,4 @@
-use mathlib.Core.Path.{_≡_, refl, sym, ap, _∙_}
+use mathlib.Core.Path.{refl, sym, ap, _∙_}
 use mathlib.Core.List.{List}
 use Prim.Native.Nat.{ℕ}
 use Rattle.event.specs.Span.{same}
@@ -7,36 +7,24 @@ use Rattle.scanner.proofs.Choosing.{named-by, unnamed-by}
 use borrow.Author.Needs.{needs}
 use Rattle.scanner.proofs.select.is_named.Statement.{statement}
 use Rattle.scanner.proofs.select.is_named.Tie as tie
-use Rattle.scanner.proofs.select.is_named.Reads as reads
-use Rattle.scanner.proofs.select.is_named.Lts as lts
-use Rattle.event.proofs.has_name.Reads as has-name-reads
-use Rattle.event.proofs.same_bytes.Reads as same-bytes-reads
-use Rattle.event.proofs.text.Reads as text-reads
-use Rattle.scanner.proofs.name_words.Reads as name-words-reads
 
--- src/select.rt:37:8
 has-name-requires : tie.Need-has-name-requires
 has-name-requires c κs = search needs
 
--- src/select.rt:39:13
 name-words-requires : tie.Need-name-words-requires
 name-words-requires c κs = search needs
 
--- src/select.rt:41:13
 text-requires : tie.Need-text-requires
 text-requires c κs = search needs
 
--- src/select.rt:40:9
 same-bytes-requires : tie.Need-same-bytes-requires
 same-bytes-requires c κs = search needs
 
--- src/select.rt:40:9
 returns : tie.Need-returns
 returns c =
     let a = c .before .before .before .before .before .before .before .before .args in
     named-by (a .document .now) (a .name .now) (a .base) (a .table .now) (itemOf (a .item)) _ _ _ _ (sym (c .before .before .before .before .has-name .ensures) ∙ c .before .before .before .if1 .taken) (c .before .before .name-words .ensures) (c .same-bytes .ensures ∙ ap (λ (x : List ℕ). same x (a .name .now)) (c .before .text .ensures .0))
 
--- src/select.rt:33:1
 returns-2 : tie.Need-returns-2
 returns-2 c =
     let a = c .before .before .before .before .before .args in

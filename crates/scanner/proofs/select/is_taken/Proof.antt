@@ -1,21 +1,15 @@
-use mathlib.Core.Path.{_≡_, refl, sym, ap, _∙_}
+use mathlib.Core.Path.{_∙_}
 use borrow.Author.Needs.{needs}
 use Rattle.scanner.proofs.select.is_taken.Statement.{statement}
 use Rattle.scanner.proofs.select.is_taken.Tie as tie
-use Rattle.scanner.proofs.select.is_taken.Reads as reads
-use Rattle.scanner.proofs.select.is_taken.Lts as lts
-use Rattle.scanner.proofs.select.is_named.Reads as is-named-reads
 
--- src/select.rt:115:9
 returns : tie.Need-returns
 returns c =
     rw (c .if1 .taken)
 
--- src/select.rt:117:5
 is-named-requires : tie.Need-is-named-requires
 is-named-requires c κs = search needs
 
--- src/select.rt:103:1
 returns-2 : tie.Need-returns-2
 returns-2 c =
     c .is-named .ensures ∙ rw (c .before .if1 .left)

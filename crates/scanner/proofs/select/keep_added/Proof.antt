@@ -3,23 +3,16 @@ use Rattle.scanner.proofs.Picking.{none-stored}
 use borrow.Author.Needs.{needs}
 use Rattle.scanner.proofs.select.keep_added.Statement.{statement}
 use Rattle.scanner.proofs.select.keep_added.Tie as tie
-use Rattle.scanner.proofs.select.keep_added.Reads as reads
-use Rattle.scanner.proofs.select.keep_added.Lts as lts
-use Rattle.scanner.proofs.keep.Reads as keep-reads
 
--- src/select.rt:418:9
 keep-requires : tie.Need-keep-requires
 keep-requires c κs = search needs
 
--- src/select.rt:404:1
 same-length : tie.Need-same-length
 same-length c = search needs
 
--- src/select.rt:404:1
 returns : tie.Need-returns
 returns c = search needs
 
--- src/select.rt:404:1
 returns-2 : tie.Need-returns-2
 returns-2 c =
     let a = c .before .before .before .args in

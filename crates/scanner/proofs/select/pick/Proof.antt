@@ -1,34 +1,20 @@
-use native.Mathlib.Omega.{arith}
-use mathlib.Core.Path.{_≡_, refl, sym, ap, _∙_}
-use mathlib.Core.List.{List}
-use Prim.Native.Nat.{ℕ}
-use lib.ListN.{length}
+use mathlib.Core.Path.{sym, _∙_}
 use Rattle.slice_spec.specs.Slice.{Place}
 use Rattle.scanner.proofs.Picking.{refused-sizes, refused-place, at-end, goes}
 use Rattle.slice_spec.specs.Bounds.{fits}
 use borrow.Author.Needs.{needs}
 use Rattle.scanner.proofs.select.pick.Statement.{statement}
 use Rattle.scanner.proofs.select.pick.Tie as tie
-use Rattle.scanner.proofs.select.pick.Reads as reads
-use Rattle.scanner.proofs.select.pick.Lts as lts
-use Rattle.scanner.proofs.select.pick_at.Reads as pick-at-reads
-use Rattle.scanner.proofs.select.place_bad.Reads as place-bad-reads
-use Rattle.scanner.proofs.select.sizes_bad.Reads as sizes-bad-reads
-use Rattle.wire.proofs.Refusal.new.Reads as new-reads
 
--- src/select.rt:567:8
 sizes-bad-requires : tie.Need-sizes-bad-requires
 sizes-bad-requires c κs = search needs
 
--- src/select.rt:568:32
 new-requires : tie.Need-new-requires
 new-requires c κs = search needs
 
--- src/select.rt:568:9
 same-length : tie.Need-same-length
 same-length c = search needs
 
--- src/select.rt:568:9
 returns : tie.Need-returns
 returns c =
     let a = c .before .before .before .before .before .before .before .before .before .args in
@@ -36,19 +22,15 @@ returns c =
     let pl : Place = record { at = a .at; names = a .names } in
     λ events. refused-sizes (a .query) (a .element .now) (a .name .now) (a .document .now) pl (a .table .now) (a .rows .now) events (a .written) _ _ (sym (c .before .before .sizes-bad .ensures) ∙ c .before .if1 .taken) (c .new .ensures .0) (c .new .ensures .1)
 
--- src/select.rt:570:8
 place-bad-requires : tie.Need-place-bad-requires
 place-bad-requires c κs = search needs
 
--- src/select.rt:571:32
 new-requires-2 : tie.Need-new-requires-2
 new-requires-2 c κs = search needs
 
--- src/select.rt:571:9
 same-length-2 : tie.Need-same-length-2
 same-length-2 c = search needs
 
--- src/select.rt:571:9
 returns-2 : tie.Need-returns-2
 returns-2 c =
     let a = c .before .before .before .before .before .before .before .before .before .before .before .before .args in
@@ -56,11 +38,9 @@ returns-2 c =
     let pl : Place = record { at = a .at; names = a .names } in
     λ events. refused-place (a .query) (a .element .now) (a .name .now) (a .document .now) pl (a .table .now) (a .rows .now) events (a .written) (sym (c .before .before .before .before .before .sizes-bad .ensures) ∙ c .before .before .before .before .if1 .left) _ _ (sym (c .before .before .place-bad .ensures) ∙ c .before .if2 .taken) (c .new2 .ensures .0) (c .new2 .ensures .1)
 
--- src/select.rt:574:9
 same-length-3 : tie.Need-same-length-3
 same-length-3 c = search needs
 
--- src/select.rt:574:9
 returns-3 : tie.Need-returns-3
 returns-3 c =
     let a = c .before .before .before .before .before .before .before .before .before .before .before .before .args in
@@ -68,7 +48,6 @@ returns-3 c =
     let pl : Place = record { at = a .at; names = a .names } in
     λ events. at-end (a .query) (a .element .now) (a .name .now) (a .document .now) pl (a .table .now) (a .rows .now) events (a .written) (sym (c .before .before .before .before .before .sizes-bad .ensures) ∙ c .before .before .before .before .if1 .left) (sym (c .before .before .place-bad .ensures) ∙ c .before .if2 .left) (c .if3 .taken)
 
--- src/select.rt:576:5
 pick-at-requires : tie.Need-pick-at-requires
 pick-at-requires c κs =
     let a = c .before .before .before .before .before .before .before .before .before .before .before .before .before .before .args in
@@ -76,15 +55,12 @@ pick-at-requires c κs =
     let pl : Place = record { at = a .at; names = a .names } in
     fits pl (a .document .now) (a .table .now) (sym (c .before .before .before .before .before .before .before .sizes-bad .ensures) ∙ c .before .before .before .before .before .before .if1 .left) (sym (c .before .before .before .before .place-bad .ensures) ∙ c .before .before .before .if2 .left)
 
--- src/select.rt:554:1
 same-length-4 : tie.Need-same-length-4
 same-length-4 c = search needs
 
--- src/select.rt:554:1
 same-length-5 : tie.Need-same-length-5
 same-length-5 c = search needs
 
--- src/select.rt:554:1
 returns-4 : tie.Need-returns-4
 returns-4 c =
     let a = c .before .before .before .before .before .before .before .before .before .before .before .before .before .before .before .before .before .before .before .args in

@@ -1,37 +1,23 @@
 use Rattle.scanner.proofs.Picking.{lent-small, read-whole, turned-incomplete, turned-bad, turned-complete}
-use native.Mathlib.Omega.{arith}
-use mathlib.Core.Path.{_≡_, refl, sym, ap, _∙_}
-use mathlib.Core.List.{List}
-use Prim.Native.Nat.{ℕ}
-use lib.ListN.{length}
+use mathlib.Core.Path.{ap}
 use Rattle.slice_spec.specs.Slice.{Place}
 use Rattle.scanner.specs.Tally.{outcomeOf}
 use borrow.Author.Needs.{needs}
 use Rattle.scanner.proofs.select.pick_at.Statement.{statement}
 use Rattle.scanner.proofs.select.pick_at.Tie as tie
-use Rattle.scanner.proofs.select.pick_at.Reads as reads
-use Rattle.scanner.proofs.select.pick_at.Lts as lts
-use Rattle.scanner.proofs.select.pick_read.Reads as pick-read-reads
-use Rattle.scanner.proofs.measure.Reads as measure-reads
-use Rattle.wire.proofs.tokens.built_in.Reads as built-in-reads
 
--- src/select.rt:513:18
 built-in-requires : tie.Need-built-in-requires
 built-in-requires c κs = search needs
 
--- src/select.rt:519:30
 sub-measure : tie.Need-sub-measure
 sub-measure c = search needs
 
--- src/select.rt:519:30
 part-measure-start : tie.Need-part-measure-start
 part-measure-start c = search needs
 
--- src/select.rt:519:30
 part-measure-end : tie.Need-part-measure-end
 part-measure-end c = search needs
 
--- src/select.rt:519:9
 measure-requires : tie.Need-measure-requires
 measure-requires c κs =
     let a = c .before .before .before .before .before .before .before .before .before .args in
@@ -39,19 +25,15 @@ measure-requires c κs =
     let pl : Place = record { at = a .at; names = a .names } in
     (lent-small (a .document .now) pl (a .table .now) p, (c .before .before .before .built-in .ensures, p .names-fit))
 
--- src/select.rt:522:32
 enum-told : tie.Need-enum-told
 enum-told c = search needs
 
--- src/select.rt:523:22
 enum-known-outcome : tie.Need-enum-known-outcome
 enum-known-outcome c = search needs
 
--- src/select.rt:524:27
 enum-known-outcome-2 : tie.Need-enum-known-outcome-2
 enum-known-outcome-2 c = search needs
 
--- src/select.rt:524:35
 pick-read-requires : tie.Need-pick-read-requires
 pick-read-requires c κs =
     let a = c .before .before .before .before .before .before .before .before .before .before .before .before .before .before .before .before .args in
@@ -59,11 +41,9 @@ pick-read-requires c κs =
     let pl : Place = record { at = a .at; names = a .names } in
     (c .before .before .before .before .before .before .before .before .before .before .built-in .ensures, read-whole (a .query) (a .element .now) (a .name .now) (a .document .now) pl (a .table .now) (a .rows .now) 0 (a .written) p _ (c .before .before .before .before .before .before .measure .ensures) _ (ap outcomeOf (c .before .before .before .before .outcome2 .given .1)))
 
--- src/select.rt:499:1
 same-length : tie.Need-same-length
 same-length c = search needs
 
--- src/select.rt:499:1
 returns : tie.Need-returns
 returns c =
     let a = c .before .before .before .before .before .before .before .before .before .before .before .before .args in
@@ -71,11 +51,9 @@ returns c =
     let pl : Place = record { at = a .at; names = a .names } in
     λ events. turned-incomplete (a .query) (a .element .now) (a .name .now) (a .document .now) pl (a .table .now) (a .rows .now) events (a .written) p _ (c .before .before .measure .ensures) (ap outcomeOf (c .enum-told .given .1))
 
--- src/select.rt:499:1
 same-length-2 : tie.Need-same-length-2
 same-length-2 c = search needs
 
--- src/select.rt:499:1
 returns-2 : tie.Need-returns-2
 returns-2 c =
     let a = c .before .before .before .before .before .before .before .before .before .before .before .before .before .args in
@@ -83,15 +61,12 @@ returns-2 c =
     let pl : Place = record { at = a .at; names = a .names } in
     λ events. turned-bad (a .query) (a .element .now) (a .name .now) (a .document .now) pl (a .table .now) (a .rows .now) events (a .written) p _ (c .before .before .before .measure .ensures) _ _ (ap outcomeOf (c .before .outcome .given .1))
 
--- src/select.rt:499:1
 same-length-3 : tie.Need-same-length-3
 same-length-3 c = search needs
 
--- src/select.rt:499:1
 same-length-4 : tie.Need-same-length-4
 same-length-4 c = search needs
 
--- src/select.rt:499:1
 returns-3 : tie.Need-returns-3
 returns-3 c =
     let a = c .before .before .before .before .before .before .before .before .before .before .before .before .before .before .before .before .before .before .before .before .before .args in

@@ -1,24 +1,14 @@
 use native.Mathlib.Omega.{arith}
-use mathlib.Core.Path.{_≡_, refl, sym, ap, _∙_}
-use mathlib.Core.List.{List}
-use Prim.Native.Nat.{ℕ}
-use lib.ListN.{length}
+use mathlib.Core.Path.{sym, _∙_}
 use Rattle.slice_spec.specs.Slice.{Place}
 use Rattle.scanner.proofs.Picking.{no-rows, faulty, faultless, pairs-room, rows-room, handed}
 use borrow.Author.Needs.{needs}
 use Rattle.scanner.proofs.select.pick_read.Statement.{statement}
 use Rattle.scanner.proofs.select.pick_read.Tie as tie
-use Rattle.scanner.proofs.select.pick_read.Reads as reads
-use Rattle.scanner.proofs.select.pick_read.Lts as lts
-use Rattle.scanner.proofs.select.fault.Reads as fault-reads
-use Rattle.scanner.proofs.select.hand_out.Reads as hand-out-reads
-use Rattle.wire.proofs.Refusal.new.Reads as new-reads
 
--- src/select.rt:465:32
 new-requires : tie.Need-new-requires
 new-requires c κs = search needs
 
--- src/select.rt:465:9
 returns : tie.Need-returns
 returns c =
     let a = c .before .before .before .before .before .before .before .args in
@@ -27,19 +17,15 @@ returns c =
     let w = p .1 in
     λ events. no-rows (a .document .now) pl (a .table .now) (a .count) (a .added) w (a .query) (a .element .now) (a .name .now) (a .rows .now) events (a .written) (a .len) _ _ (c .before .if1 .taken) (c .new .ensures .0) (c .new .ensures .1)
 
--- src/select.rt:467:9
 fault-requires : tie.Need-fault-requires
 fault-requires c κs = search needs
 
--- src/select.rt:481:32
 new-requires-2 : tie.Need-new-requires-2
 new-requires-2 c κs = search needs
 
--- src/select.rt:481:9
 same-length : tie.Need-same-length
 same-length c = search needs
 
--- src/select.rt:481:9
 returns-2 : tie.Need-returns-2
 returns-2 c =
     let a = c .before .before .before .before .before .before .before .before .before .before .args in
@@ -48,7 +34,6 @@ returns-2 c =
     let w = p .1 in
     λ events. faulty (a .document .now) pl (a .table .now) (a .count) (a .added) w (a .query) (a .element .now) (a .name .now) (a .rows .now) events (a .written) (a .len) (c .before .before .before .before .if1 .left) _ _ (c .new2 .ensures .0 ∙ c .before .before .fault .ensures) (λ z. c .before .if2 .taken (sym (c .new2 .ensures .0) ∙ z)) (c .new2 .ensures .1)
 
--- src/select.rt:483:9
 hand-out-requires : tie.Need-hand-out-requires
 hand-out-requires c κs =
     let a = c .before .before .before .before .before .before .before .before .before .before .before .args in
@@ -58,15 +43,12 @@ hand-out-requires c κs =
     let f = faultless (a .document .now) pl (a .table .now) (a .count) (a .added) w (a .query) (a .element .now) (a .name .now) (a .rows .now) 0 (a .written) (a .len) (c .before .before .before .before .before .if1 .left) _ (c .before .before .before .fault .ensures) (c .before .before .if2 .left) in
     (p .0, (w, (pairs-room (a .document .now) pl (a .table .now) (a .count) (a .added) w (a .query) (a .element .now) (a .name .now) (a .rows .now) 0 (a .written) (a .len) (c .before .before .before .before .before .if1 .left) (f .1), rows-room (a .document .now) pl (a .table .now) (a .count) (a .added) w (a .query) (a .element .now) (a .name .now) (a .rows .now) 0 (a .written) (a .len) (c .before .before .before .before .before .if1 .left) (f .0) (omega (arith, c .before .before .before .before .before .before .before .before .before .before .before .good)))))
 
--- src/select.rt:444:1
 same-length-2 : tie.Need-same-length-2
 same-length-2 c = search needs
 
--- src/select.rt:444:1
 same-length-3 : tie.Need-same-length-3
 same-length-3 c = search needs
 
--- src/select.rt:444:1
 returns-3 : tie.Need-returns-3
 returns-3 c =
     let a = c .before .before .before .before .before .before .before .before .before .before .before .before .before .before .before .before .args in

@@ -4,16 +4,12 @@ use borrow.Author.Tests.{lt-ltb, le-ltb}
 use Rattle.grammar.specs.Choice.{half-test}
 use Rattle.scanner.proofs.select.place_bad.Statement.{statement}
 use Rattle.scanner.proofs.select.place_bad.Tie as tie
-use Rattle.scanner.proofs.select.place_bad.Reads as reads
-use Rattle.scanner.proofs.select.place_bad.Lts as lts
 
--- src/select.rt:548:9
 returns : tie.Need-returns
 unfolding placeBad
 returns c =
     rw (lt-ltb _ _ (c .if1 .taken))
 
--- src/select.rt:544:1
 returns-2 : tie.Need-returns-2
 unfolding placeBad
 returns-2 c =

@@ -1,29 +1,22 @@
 use native.Mathlib.Omega.{arith}
-use mathlib.Core.Path.{_≡_, refl, sym, ap, _∙_}
+use mathlib.Core.Path.{_∙_}
 use borrow.Author.Needs.{needs}
 use Rattle.scanner.proofs.select.put_taken.Statement.{statement}
 use Rattle.scanner.proofs.select.put_taken.Tie as tie
-use Rattle.scanner.proofs.select.put_taken.Reads as reads
-use Rattle.scanner.proofs.select.put_taken.Lts as lts
-use Rattle.scanner.proofs.put_item.Reads as put-item-reads
 
--- src/select.rt:98:9
 put-item-requires : tie.Need-put-item-requires
 put-item-requires c κs =
     let p = c .before .before .before .before .pre in
     (omega (arith, p .0 (c .before .if1 .taken)), p .1)
 
--- src/select.rt:85:1
 same-length : tie.Need-same-length
 same-length c = search needs
 
--- src/select.rt:85:1
 returns : tie.Need-returns
 returns c =
     let a = c .before .before .before .before .before .before .before .args in
     c .before .before .put-item .ensures ∙ rw (c .before .before .before .before .if1 .taken)
 
--- src/select.rt:85:1
 returns-2 : tie.Need-returns-2
 returns-2 c =
     rw (c .if1 .left)

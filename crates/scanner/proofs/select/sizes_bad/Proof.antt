@@ -2,22 +2,17 @@ use Rattle.slice_spec.specs.Slice.{sizesBad}
 use borrow.Author.Tests.{lt-ltb, le-ltb, eq-eqb, ne-eqb}
 use Rattle.scanner.proofs.select.sizes_bad.Statement.{statement}
 use Rattle.scanner.proofs.select.sizes_bad.Tie as tie
-use Rattle.scanner.proofs.select.sizes_bad.Reads as reads
-use Rattle.scanner.proofs.select.sizes_bad.Lts as lts
 
--- src/select.rt:535:9
 returns : tie.Need-returns
 unfolding sizesBad
 returns c =
     rw (lt-ltb _ _ (c .if1 .taken))
 
--- src/select.rt:538:9
 returns-2 : tie.Need-returns-2
 unfolding sizesBad
 returns-2 c =
     rw (le-ltb _ _ (c .before .if1 .left), eq-eqb _ _ (c .if2 .taken))
 
--- src/select.rt:531:1
 returns-3 : tie.Need-returns-3
 unfolding sizesBad
 returns-3 c =

@@ -1,28 +1,16 @@
 use lib.ListN.{length}
 use Rattle.scanner.proofs.Choosing.{chose-both, chose-none, first-placed, first-room, first-few, rest-fits, rest-room, kind-is, chosen-none, chosen-is, rest-keepable, others-are, own-eight}
-use Rattle.grammar.specs.Scan.{itemWords}
-use Rattle.scanner.specs.Answers.{itemOf}
-use Rattle.scanner.proofs.Choosing.{chose-first, chose-none}
+use Rattle.scanner.proofs.Choosing.{chose-none}
 use Prim.Native.Nat.{ℕ}
 use mathlib.Core.Bool.{Bool}
 use native.Mathlib.Omega.{arith}
-use mathlib.Core.Path.{_≡_, refl, sym, ap, _∙_}
+use mathlib.Core.Path.{sym, ap, _∙_}
 use Rattle.scanner.specs.Answers.{itemReadOf}
 use Rattle.scanner.proofs.Walk.{soundOf, first-fits, first-short, first-refused, ended-first}
 use borrow.Author.Needs.{needs}
 use Rattle.scanner.proofs.select.take_event.Statement.{statement}
 use Rattle.scanner.proofs.select.take_event.Tie as tie
-use Rattle.scanner.proofs.select.take_event.Reads as reads
-use Rattle.scanner.proofs.select.take_event.Lts as lts
-use Rattle.scanner.proofs.select.is_element.Reads as is-element-reads
-use Rattle.scanner.proofs.select.take_first.Reads as take-first-reads
-use Rattle.scanner.proofs.select.take_rest.Reads as take-rest-reads
-use Rattle.scanner.proofs.select.takes_all.Reads as takes-all-reads
-use Rattle.scanner.proofs.select.takes_one.Reads as takes-one-reads
-use Rattle.scanner.proofs.after_item.Reads as after-item-reads
-use Rattle.scanner.proofs.first_at.Reads as first-at-reads
 
--- src/select.rt:223:11
 first-at-requires : tie.Need-first-at-requires
 first-at-requires c κs =
     let a = c .before .before .before .before .before .before .args in
@@ -31,11 +19,9 @@ first-at-requires c κs =
     let k = p .1 .0 in
     (p .0, (omega (arith, k .pairs-fit, k .kept-first), record { again = λ _. ended-first S (a .s .now) (a .pool .names) (k .ended) }))
 
--- src/select.rt:224:25
 enum-known-item : tie.Need-enum-known-item
 enum-known-item c = search needs
 
--- src/select.rt:226:16
 is-element-requires : tie.Need-is-element-requires
 is-element-requires c κs =
     let a = c .before .before .before .before .before .before .before .before .before .before .args in
@@ -44,11 +30,9 @@ is-element-requires c κs =
     let e = sym (c .before .before .before .first-at .ensures) ∙ ap itemReadOf (c .before .item .given .1) in
     first-placed (a .query) (a .document .now) (a .element .now) (a .name .now) (a .base) (a .s .now) (a .table .now) (a .pool) (p .1 .0) _ _ e
 
--- src/select.rt:227:21
 takes-all-requires : tie.Need-takes-all-requires
 takes-all-requires c κs = search needs
 
--- src/select.rt:228:21
 take-first-requires : tie.Need-take-first-requires
 take-first-requires c κs =
     let a = c .before .before .before .before .before .before .before .before .before .before .before .before .before .before .args in
@@ -61,15 +45,12 @@ take-first-requires c κs =
     let room = p .1 .1 .0 in
     (λ t u. first-room (a .query) (a .document .now) (a .element .now) (a .name .now) (a .base) (a .s .now) (a .table .now) (a .pool) (p .1 .0) _ _ e h (a .write) (a .to) (a .rows .now) room (sym (c .before .takes-all .ensures) ∙ t) u, first-placed (a .query) (a .document .now) (a .element .now) (a .name .now) (a .base) (a .s .now) (a .table .now) (a .pool) (p .1 .0) _ _ e)
 
--- src/select.rt:235:21
 after-item-requires : tie.Need-after-item-requires
 after-item-requires c κs = search needs
 
--- src/select.rt:239:21
 takes-one-requires : tie.Need-takes-one-requires
 takes-one-requires c κs = search needs
 
--- src/select.rt:242:26
 mul-take-rest : tie.Need-mul-take-rest
 mul-take-rest c =
     let a = c .before .before .before .before .before .before .before .before .before .before .before .before .before .before .before .before .before .before .before .before .args in
@@ -82,7 +63,6 @@ mul-take-rest c =
     let room = p .1 .1 .0 in
     omega (arith, first-few (a .query) (a .document .now) (a .element .now) (a .name .now) (a .base) (a .s .now) (a .table .now) (a .pool) (p .1 .0) _ _ e h (a .write) (a .to) (a .rows .now) room _ _ (rw (c .before .before .before .before .before .before .before .takes-all .ensures) at (c .before .before .before .before .before .take-first .ensures)))
 
--- src/select.rt:242:21
 add-take-rest : tie.Need-add-take-rest
 add-take-rest c =
     let a = c .before .before .before .before .before .before .before .before .before .before .before .before .before .before .before .before .before .before .before .before .args in
@@ -95,7 +75,6 @@ add-take-rest c =
     let room = p .1 .1 .0 in
     record { fits = rest-fits (a .query) (a .document .now) (a .element .now) (a .name .now) (a .base) (a .s .now) (a .table .now) (a .pool) (p .1 .0) _ _ e h (a .write) (a .to) (a .rows .now) room _ _ (rw (c .before .before .before .before .before .before .before .takes-all .ensures) at (c .before .before .before .before .before .take-first .ensures)) (p .1 .1 .1) }
 
--- src/select.rt:229:21
 take-rest-requires : tie.Need-take-rest-requires
 take-rest-requires c κs =
     let a = c .before .before .before .before .before .before .before .before .before .before .before .before .before .before .before .before .before .before .before .before .args in
@@ -110,7 +89,6 @@ take-rest-requires c κs =
     let n = ap length (others-are (a .query) (a .document .now) (a .element .now) (a .name .now) (a .base) (a .s .now) (a .table .now) (a .pool) (p .1 .0) _ _ e h _ b _ _ (c .before .before .before .before .before .before .before .takes-all .ensures) (c .before .takes-one .ensures)) in
     (f .0, (p .0, (rest-keepable (a .query) (a .document .now) (a .element .now) (a .name .now) (a .base) (a .s .now) (a .table .now) (a .pool) (p .1 .0) _ _ e h _ b, rest-room (a .query) (a .document .now) (a .element .now) (a .name .now) (a .base) (a .s .now) (a .table .now) (a .pool) (p .1 .0) _ _ e h (a .write) (a .to) (a .rows .now) room _ _ (rw (c .before .before .before .before .before .before .before .takes-all .ensures) at (c .before .before .before .before .before .take-first .ensures)) (p .1 .1 .1) _ n)))
 
--- src/select.rt:246:27
 add-t28 : tie.Need-add-t28
 add-t28 c =
     let a = c .before .before .before .before .before .before .before .before .before .before .before .before .before .before .before .before .before .before .before .before .before .before .before .args in
@@ -123,11 +101,9 @@ add-t28 c =
     let room = p .1 .1 .0 in
     omega (arith, first-few (a .query) (a .document .now) (a .element .now) (a .name .now) (a .base) (a .s .now) (a .table .now) (a .pool) (p .1 .0) _ _ e h (a .write) (a .to) (a .rows .now) room _ _ (rw (c .before .before .before .before .before .before .before .before .before .before .takes-all .ensures) at (c .before .before .before .before .before .before .before .before .take-first .ensures)), c .before .before .take-rest .ensures .0, p .1 .0 .in-store)
 
--- src/select.rt:244:17
 same-length : tie.Need-same-length
 same-length c = search needs
 
--- src/select.rt:244:17
 returns : tie.Need-returns
 returns c =
     let a = c .before .before .before .before .before .before .before .before .before .before .before .before .before .before .before .before .before .before .before .before .before .before .before .args in
@@ -141,15 +117,12 @@ returns c =
     let n = others-are (a .query) (a .document .now) (a .element .now) (a .name .now) (a .base) (a .s .now) (a .table .now) (a .pool) (p .1 .0) _ _ e h _ b _ _ (c .before .before .before .before .before .before .before .before .before .before .takes-all .ensures) (c .before .before .before .before .takes-one .ensures) in
     (rw z (chose-both (a .write) (a .to) _ _ (a .rows .now) _ _ _ _ (own-eight (a .query) (a .document .now) (a .element .now) (a .name .now) (a .base) (a .s .now) (a .table .now) (a .pool) (p .1 .0) _ _ e h) (rw (c .before .before .before .before .before .before .before .before .before .before .takes-all .ensures) at (c .before .before .before .before .before .before .before .before .take-first .ensures)) (rw n at (c .before .before .take-rest .ensures .1))), kind-is (a .query) (a .document .now) (a .element .now) (a .name .now) (a .base) (a .s .now) (a .table .now) (a .pool) (p .1 .0) _ _ e)
 
--- src/select.rt:251:31
 enum-told : tie.Need-enum-told
 enum-told c = search needs
 
--- src/select.rt:252:33
 enum-told-2 : tie.Need-enum-told-2
 enum-told-2 c = search needs
 
--- src/select.rt:202:1
 returns-2 : tie.Need-returns-2
 returns-2 c =
     let a = c .before .before .before .before .before .before .before .before .before .before .before .before .args in
@@ -159,7 +132,6 @@ returns-2 c =
     let z = chosen-none (a .query) (a .document .now) (a .element .now) (a .name .now) (a .base) (a .s .now) (a .table .now) (a .pool) (p .1 .0) _ _ e (sym (c .before .is-element .ensures) ∙ c .if1 .left) in
     (rw z (chose-none (a .write) (a .to) (a .rows .now)), kind-is (a .query) (a .document .now) (a .element .now) (a .name .now) (a .base) (a .s .now) (a .table .now) (a .pool) (p .1 .0) _ _ e)
 
--- src/select.rt:202:1
 returns-3 : tie.Need-returns-3
 returns-3 c =
     let a = c .before .before .before .before .before .before .before .before .before .args in
@@ -168,7 +140,6 @@ returns-3 c =
     let e = sym (c .before .before .first-at .ensures) ∙ ap itemReadOf (c .enum-told .given .1) in
     absurd (first-short S (a .s .now) (a .pool .names) (p .1 .0 .ended) _ e)
 
--- src/select.rt:202:1
 returns-4 : tie.Need-returns-4
 returns-4 c =
     let a = c .before .before .before .before .before .before .before .before .before .args in

@@ -4,27 +4,20 @@ use Rattle.scanner.proofs.Choosing.{chose-first, chose-none}
 use borrow.Author.Needs.{needs}
 use Rattle.scanner.proofs.select.take_first.Statement.{statement}
 use Rattle.scanner.proofs.select.take_first.Tie as tie
-use Rattle.scanner.proofs.select.take_first.Reads as reads
-use Rattle.scanner.proofs.select.take_first.Lts as lts
-use Rattle.scanner.proofs.select.put_taken.Reads as put-taken-reads
 
--- src/select.rt:189:9
 put-taken-requires : tie.Need-put-taken-requires
 put-taken-requires c κs =
     let p = c .before .before .before .before .pre in
     (p .0 (c .before .if1 .taken), p .1)
 
--- src/select.rt:190:9
 same-length : tie.Need-same-length
 same-length c = search needs
 
--- src/select.rt:190:9
 returns : tie.Need-returns
 returns c =
     let a = c .before .before .before .before .before .before .before .args in
     rw (c .before .before .before .before .if1 .taken) (chose-first (a .write) (a .to) (itemWords 0 (a .base) (a .table .now) (itemOf (a .item))) (a .rows .now) _ (c .before .before .put-taken .ensures))
 
--- src/select.rt:175:1
 returns-2 : tie.Need-returns-2
 returns-2 c =
     let a = c .before .before .before .args in

@@ -7,7 +7,7 @@ use native.Mathlib.Omega.{arith}
 use mathlib.Core.Path.{_≡_, refl, sym, ap, _∙_}
 use mathlib.Core.Bool.{Bool, cond}
 use mathlib.Core.List.{List}
-use lib.Seq.{sets, length-sets}
+use lib.Seq.{sets}
 use lib.ListN.{length, getD}
 use Rattle.grammar.specs.Grammar.{attribute}
 use Rattle.scanner.specs.Answers.{itemOf, itemReadOf}
@@ -20,13 +20,6 @@ use Rattle.scanner.proofs.Walk.{soundOf, attribute-fits, ended-attribut
 use Rattle.scanner.specs.Select.{rowsOf, taken}
 use Rattle.scanner.proofs.select.take_rest.Statement.{statement}
 use Rattle.scanner.proofs.select.take_rest.Tie as tie
-use Rattle.scanner.proofs.select.take_rest.Reads as reads
-use Rattle.scanner.proofs.select.take_rest.Lts as lts
-use Rattle.scanner.proofs.select.is_taken.Reads as is-taken-reads
-use Rattle.scanner.proofs.select.put_taken.Reads as put-taken-reads
-use Rattle.scanner.proofs.after_item.Reads as after-item-reads
-use Rattle.scanner.proofs.attribute_at.Reads as attribute-at-reads
-use Rattle.wire.proofs.Command.new.Reads as new-reads
 
 -- the rows that are taken, and the words in the end
 abbrev Ws : ℕ → List ℕ → List ℕ → List ℕ → List ℕ → Bool → Bool → Pool → ℕ → List Words
@@ -43,29 +36,24 @@ abbrev μ-loop : tie.MeasureT-loop
 μ-loop s from base tokens table document name all one write rows₀ to at₀ pool₀ count₀ rows at pool count =
     length s - at
 
--- src/select.rt:145:5
 loop-holds : tie.Need-loop-holds Inv-loop μ-loop
 loop-holds c =
     let p = c .before .before .before .before .before .pre in
     let a = c .before .before .before .before .before .args in
     (p .0, refl, taking-start (a .base) (a .s .now) (soundOf (a .start) (a .table .now)) (a .table .now) (a .document .now) (a .name .now) (a .all) (a .one) (a .write) (a .to) _ _ _ (a .start) (a .rows .now) refl (p .1 .1 .0) (p .1 .1 .1) refl refl, omega arith)
 
--- src/select.rt:146:44
 shared-slice-read-new : tie.Need-shared-slice-read-new Inv-loop μ-loop
 shared-slice-read-new c =
     search needs
 
--- src/select.rt:146:13
 new-requires : tie.Need-new-requires Inv-loop μ-loop
 new-requires c κs =
     search needs
 
--- src/select.rt:149:13
 same-length : tie.Need-same-length Inv-loop μ-loop
 same-length c =
     c .before .before .before .before .loop .inv .1
 
--- src/select.rt:149:13
 returns : tie.Need-returns Inv-loop μ-loop
 returns c =
     let l = c .before .before .before .before .loop in
@@ -77,7 +65,6 @@ returns c =
     let d = taking-done (a .base) (a .s .now) S (a .table .now) (a .document .now) (a .name .now) (a .all) (a .one) (a .write) (a .to) _ _ _ _ (l .pool) (l .rows) (l .count) (taking-as (a .base) (a .s .now) S (a .table .now) (a .document .now) (a .name .now) (a .all) (a .one) (a .write) (a .to) _ _ _ _ (l .pool) (l .rows) (l .count) (rest-other S (a .s .now) (l .pool .names) (l .at) (omega arith) (λ t. c .if1 .taken (kind ∙ t))) (l .inv .2)) in
     (omega (arith, l .inv .0, l .inv .3), record { counted = d .0; rows-are = d .1 })
 
--- src/select.rt:151:15
 attribute-at-requires : tie.Need-attribute-at-requires Inv-loop μ-loop
 attribute-at-requires c κs =
     let l = c .before .before .before .before .loop in
@@ -91,17 +78,14 @@ attribute-at-requires c κs =
     let q = l .inv .2 .keepable in
     (h, (p .1 .0, (omega (arith, q .pairs-fit, q .kept-first), record { again = λ _. rw (l .inv .2 .same-sound) (ended-attribute S (a .s .now) (l .pool .names) (l .at) h k (q .ended)) })))
 
--- src/select.rt:152:29
 enum-known-item : tie.Need-enum-known-item Inv-loop μ-loop
 enum-known-item c =
     search needs
 
--- src/select.rt:153:17
 after-item-requires : tie.Need-after-item-requires Inv-loop μ-loop
 after-item-requires c κs =
     search needs
 
--- src/select.rt:155:20
 is-taken-requires : tie.Need-is-taken-requires Inv-loop μ-loop
 is-taken-requires c κs =
     let l = c .before .before .before .before .before .before .before .before .before .loop in
@@ -117,7 +101,6 @@ is-taken-requires c κs =
     let g = taking-as (a .base) (a .s .now) S (a .table .now) (a .document .now) (a .name .now) (a .all) (a .one) (a .write) (a .to) _ _ _ _ (l .pool) (l .rows) (l .count) (rest-more S (a .s .now) (l .pool .names) (l .at) h k _ _ e) (l .inv .2) in
     taking-placed (a .base) (a .s .now) S (a .table .now) (a .document .now) (a .name .now) (a .all) (a .one) (a .write) (a .to) _ _ _ _ (l .pool) (l .rows) (l .count) g (f .2)
 
--- src/select.rt:156:49
 mul-put-taken : tie.Need-mul-put-taken Inv-loop μ-loop
 mul-put-taken c =
     let l = c .before .before .before .before .before .before .before .before .before .before .before .before .loop in
@@ -126,7 +109,6 @@ mul-put-taken c =
     let S : ℕ → Bool = soundOf (a .start) (a .table .now) in
     omega (arith, l .inv .0, l .inv .3, p .1 .1 .0 .in-store)
 
--- src/select.rt:156:44
 add-put-taken : tie.Need-add-put-taken Inv-loop μ-loop
 add-put-taken c =
     let l = c .before .before .before .before .before .before .before .before .before .before .before .before .loop in
@@ -136,7 +118,6 @@ add-put-taken c =
     let r = p .1 .1 .1 in
     byTest (a .write) (λ t. omega (arith, l .inv .2 .room t, l .inv .1, r .sized)) (λ t. omega (arith, r .counts t, l .inv .0, l .inv .3, p .1 .1 .0 .in-store))
 
--- src/select.rt:156:21
 put-taken-requires : tie.Need-put-taken-requires Inv-loop μ-loop
 put-taken-requires c κs =
     let l = c .before .before .before .before .before .before .before .before .before .before .before .before .loop in
@@ -153,7 +134,6 @@ put-taken-requires c κs =
     let b = sym (c .before .before .is-taken .ensures) ∙ c .before .if2 .taken in
     (taking-room (a .base) (a .s .now) S (a .table .now) (a .document .now) (a .name .now) (a .all) (a .one) (a .write) (a .to) _ _ _ _ (l .pool) (l .rows) (l .count) g (f .2) b, taking-placed (a .base) (a .s .now) S (a .table .now) (a .document .now) (a .name .now) (a .all) (a .one) (a .write) (a .to) _ _ _ _ (l .pool) (l .rows) (l .count) g (f .2))
 
--- src/select.rt:157:21
 add-count : tie.Need-add-count Inv-loop μ-loop
 add-count c =
     let l = c .before .before .before .before .before .before .before .before .before .before .before .before .before .before .before .loop in
@@ -162,7 +142,6 @@ add-count c =
     let S : ℕ → Bool = soundOf (a .start) (a .table .now) in
     omega (arith, l .inv .0, l .inv .3, p .1 .1 .0 .in-store)
 
--- src/select.rt:159:25
 same-length-2 : tie.Need-same-length-2 Inv-loop μ-loop
 same-length-2 c =
     let l = c .before .before .before .before .before .before .before .before .before .before .before .before .before .before .before .before .loop in
@@ -171,7 +150,6 @@ same-length-2 c =
     let S : ℕ → Bool = soundOf (a .start) (a .table .now) in
     put-long (a .write) (l .rows) (a .to + 8 * l .count) (itemWords 0 (a .base) (a .table .now) (itemOf (c .before .before .before .before .before .before .before .before .before .item .given .0 .0))) _ (c .before .before .before .put-taken .ensures) ∙ l .inv .1
 
--- src/select.rt:159:25
 returns-2 : tie.Need-returns-2 Inv-loop μ-loop
 returns-2 c =
     let l = c .before .before .before .before .before .before .before .before .before .before .before .before .before .before .before .before .loop in
@@ -189,7 +167,6 @@ returns-2 c =
     let d = taking-one (a .base) (a .s .now) S (a .table .now) (a .document .now) (a .name .now) (a .all) (a .one) (a .write) (a .to) _ _ _ _ (l .pool) (l .rows) (l .count) g (f .2) _ (c .before .before .before .before .before .before .before .after-item .ensures) b _ (c .before .before .before .put-taken .ensures) (c .if3 .taken) in
     (omega (arith, l .inv .3, f .0, f .1), record { counted = d .0; rows-are = d .1 })
 
--- src/select.rt:145:5
 loop-less : tie.Need-loop-less Inv-loop μ-loop
 loop-less c =
     let l = c .before .before .before .before .before .before .before .before .before .before .before .before .before .before .before .before .loop in
@@ -205,7 +182,6 @@ loop-less c =
     let g = taking-as (a .base) (a .s .now) S (a .table .now) (a .document .now) (a .name .now) (a .all) (a .one) (a .write) (a .to) _ _ _ _ (l .pool) (l .rows) (l .count) (rest-more S (a .s .now) (l .pool .names) (l .at) h k _ _ e) (l .inv .2) in
     omega (arith, f .0, f .1)
 
--- src/select.rt:145:5
 loop-again : tie.Need-loop-again Inv-loop μ-loop
 loop-again c =
     let l = c .before .before .before .before .before .before .before .before .before .before .before .before .before .before .before .before .loop in
@@ -224,7 +200,6 @@ loop-again c =
     let w = c .before .before .before .put-taken .ensures in
     (f .1, put-long (a .write) (l .rows) (a .to + 8 * l .count) (itemWords 0 (a .base) (a .table .now) (itemOf (c .before .before .before .before .before .before .before .before .before .item .given .0 .0))) _ w ∙ l .inv .1, taking-next (a .base) (a .s .now) S (a .table .now) (a .document .now) (a .name .now) (a .all) (a .one) (a .write) (a .to) _ _ _ _ (l .pool) _ _ _ z (taking-more (a .base) (a .s .now) S (a .table .now) (a .document .now) (a .name .now) (a .all) (a .one) (a .write) (a .to) _ _ _ _ (l .pool) (l .rows) (l .count) g (f .2) _ z b _ w (c .if3 .left)), omega (arith, l .inv .3, f .0))
 
--- src/select.rt:145:5
 loop-less-2 : tie.Need-loop-less-2 Inv-loop μ-loop
 loop-less-2 c =
     let l = c .before .before .before .before .before .before .before .before .before .before .before .loop in
@@ -240,7 +215,6 @@ loop-less-2 c =
     let g = taking-as (a .base) (a .s .now) S (a .table .now) (a .document .now) (a .name .now) (a .all) (a .one) (a .write) (a .to) _ _ _ _ (l .pool) (l .rows) (l .count) (rest-more S (a .s .now) (l .pool .names) (l .at) h k _ _ e) (l .inv .2) in
     omega (arith, f .0, f .1)
 
--- src/select.rt:145:5
 loop-again-2 : tie.Need-loop-again-2 Inv-loop μ-loop
 loop-again-2 c =
     let l = c .before .before .before .before .before .before .before .before .before .before .before .loop in
@@ -257,17 +231,14 @@ loop-again-2 c =
     let z = c .before .before .after-item .ensures in
     (f .1, l .inv .1, taking-next (a .base) (a .s .now) S (a .table .now) (a .document .now) (a .name .now) (a .all) (a .one) (a .write) (a .to) _ _ _ _ (l .pool) _ _ _ z (taking-skip (a .base) (a .s .now) S (a .table .now) (a .document .now) (a .name .now) (a .all) (a .one) (a .write) (a .to) _ _ _ _ (l .pool) (l .rows) (l .count) g (f .2) _ z (sym (c .before .is-taken .ensures) ∙ c .if2 .left)), omega (arith, l .inv .3, f .0))
 
--- src/select.rt:164:17
 enum-told : tie.Need-enum-told Inv-loop μ-loop
 enum-told c =
     search needs
 
--- src/select.rt:164:17
 same-length-3 : tie.Need-same-length-3 Inv-loop μ-loop
 same-length-3 c =
     c .before .before .before .before .before .before .before .loop .inv .1
 
--- src/select.rt:164:17
 returns-3 : tie.Need-returns-3 Inv-loop μ-loop
 returns-3 c =
     let l = c .before .before .before .before .before .before .before .loop in
@@ -281,17 +252,14 @@ returns-3 c =
     let e = ap (λ (x : ℕ → Bool). attribute x (l .pool .names) (a .s .now) (l .at)) (sym (l .inv .2 .same-sound)) ∙ sym (c .before .before .attribute-at .ensures) ∙ ap itemReadOf (c .enum-told .given .1) in
     absurd (never-short S (a .s .now) (l .pool .names) (l .at) h k (l .inv .2 .keepable .ended) _ e)
 
--- src/select.rt:167:17
 enum-told-2 : tie.Need-enum-told-2 Inv-loop μ-loop
 enum-told-2 c =
     search needs
 
--- src/select.rt:167:17
 same-length-4 : tie.Need-same-length-4 Inv-loop μ-loop
 same-length-4 c =
     c .before .before .before .before .before .before .before .loop .inv .1
 
--- src/select.rt:167:17
 returns-4 : tie.Need-returns-4 Inv-loop μ-loop
 returns-4 c =
     let l = c .before .before .before .before .before .before .before .loop in
@@ -305,12 +273,10 @@ returns-4 c =
     let e = ap (λ (x : ℕ → Bool). attribute x (l .pool .names) (a .s .now) (l .at)) (sym (l .inv .2 .same-sound)) ∙ sym (c .before .before .attribute-at .ensures) ∙ ap itemReadOf (c .enum-told2 .given .1) in
     absurd (never-refused S (a .s .now) (l .pool .names) (l .at) h k (l .inv .2 .keepable .ended) _ _ e)
 
--- src/select.rt:121:1
 same-length-5 : tie.Need-same-length-5 Inv-loop μ-loop
 same-length-5 c =
     c .before .loop .inv .1
 
--- src/select.rt:121:1
 returns-5 : tie.Need-returns-5 Inv-loop μ-loop
 returns-5 c =
     let l = c .before .loop in
