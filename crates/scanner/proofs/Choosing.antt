@@ -1,5 +1,5 @@
 -- The rows of an event that a query takes, one after another.
-use mathlib.Core.Bool.{Bool, true, false, _||_, _&&_, cond}
+use mathlib.Core.Bool.{Bool, true, false, _||_, cond}
 use mathlib.Core.List.{List, [], _∷_, _++_, append-nil, append-assoc}
 use mathlib.Core.Path.{_≡_, refl, sym, ap, _∙_}
 use Prim.Native.Nat.{ℕ, suc, _+_, _*_, _≤_, _<_}
@@ -10,6 +10,7 @@ use lib.Dec.{eqb, leb}
 use lib.ListN.{length, take, length-append}
 use lib.Seq.{sets, length-sets, take-nil, drop-nil}
 use Rattle.wire.specs.Token as Token
+use Rattle.event.specs.Laws.{both}
 use Rattle.event.specs.Span.{part, span, text, same}
 use Rattle.event.specs.Row.{hasName, rowAt}
 use Rattle.grammar.specs.Reader.{got}
@@ -27,12 +28,6 @@ use Rattle.scanner.proofs.Rest.{rest}
 use Rattle.scanner.proofs.Walk.{soundOf, item-placed, first-fits, event-tag, event-single}
 use Rattle.scanner.specs.declared.select.Query.{Query}
 use Rattle.scanner.specs.Select.{takesAll, takesOne, rowsOf, taken, chosen, Room, Chose}
-
--- ---- tests
-
-both-left : (a b : Bool) → (a && b) ≡ true → a ≡ true
-both-left true b h = refl
-both-left false b h = h
 
 -- ---- a row's name
 
@@ -278,7 +273,7 @@ module _ (q : Query) (document element name : List ℕ) (base : ℕ) (s : List �
     module _ (h : isElement document element row ≡ true) where
       tag : i .kind ≡ Token.startTag
       unfolding isElement itemWords
-      tag = eqb-true _ _ (both-left (eqb (i .kind) Token.startTag) _ h)
+      tag = eqb-true _ _ (both (eqb (i .kind) Token.startTag) _ h .0)
 
       pub chosen-is : all-chosen ≡ own ++ others
       unfolding rowsOf chosen

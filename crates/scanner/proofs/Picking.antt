@@ -1,7 +1,7 @@
 -- One event of a query, from what is taken of it to the turn that the definition makes.
 use mathlib.Core.Bool.{Bool, true, false, _||_, cond}
 use mathlib.Core.List.{List, [], _∷_, _++_, append-nil}
-use mathlib.Core.Option.{Option, none, some}
+use mathlib.Core.Option.{none}
 use mathlib.Core.Path.{_≡_, refl, sym, ap, _∙_, fun-ext}
 use Prim.Native.Nat.{ℕ, suc, _+_, _*_, _-_, _/_, _≤_, _<_}
 use native.Mathlib.Omega.{arith}
@@ -10,7 +10,7 @@ use lib.Dec.{ltb}
 use lib.ListN.{length, take, drop, getD, length-append, length-drop, List·getD-append, take-append-drop}
 use lib.Seq.{sets, take-all, sets-eq, length-sets, length-take-le, take-at, drop-at, getD-take}
 use Rattle.wire.specs.Refusal.{rowsFull, poolFull, badSize, badState}
-use Rattle.grammar.specs.Grammar.{Span, Ref, new, known, Value, Items, item, whole, lacks, stops, most, counted, countedName, countedValue, after, event}
+use Rattle.grammar.specs.Grammar.{Span, Items, item, whole, lacks, stops, most, counted, countedName, after, event}
 use Rattle.grammar.specs.Added.{after-adds}
 use Rattle.grammar.specs.Scan.{sound, addsItem, adds, pairs, itemWords, words, complete, incomplete, bad, outcome, Measure, measure}
 use Rattle.grammar.specs.Scan as Scan
@@ -22,6 +22,7 @@ use Rattle.slice_spec.specs.Slice.{Place, sizesBad, placeBad, itemsAt, tableAft
 use Rattle.slice_spec.specs.Queries.{Words, split, named, isElement, allNamed, firstNamed, picks, picked, Progress, past, kindOf, tableWith, writes, done, refused}
 use Rattle.slice_spec.specs.Bounds.{Fits}
 use Rattle.slice_spec.specs.Stored.{words-front}
+use Rattle.slice_spec.specs.Whole.{countedName-most, countedValue-most}
 use Rattle.slice_spec.specs.Turns.{Turn, passed, halted, passing, turnBy, turn, turnOrRefuse}
 use Rattle.scanner.specs.declared.Pool.{Pool}
 use Rattle.scanner.specs.Tally.{limit}
@@ -123,30 +124,11 @@ asked-writes q element name document g is =
 
 -- ---- no more names than can be named join the pool
 
-counted-most : (k : ℕ) (r : Ref) → k ≤ most → counted k r ≤ most
-unfolding counted
-counted-most k (Ref.new t) h = cond-by (λ (x : ℕ). x ≤ most) (ltb k most) _ _ (λ b. let l = ltb-true k most b in omega arith) (λ _. h)
-counted-most k (known i) h = h
-
-name-most : (k : ℕ) (r : Option Ref) → k ≤ most → countedName k r ≤ most
-unfolding countedName
-name-most k none h = h
-name-most k (some r) h = counted-most k r h
-
-value-most : (k : ℕ) (v : Value) → k ≤ most → countedValue k v ≤ most
-unfolding countedValue
-value-most k Value.nothing h = h
-value-most k Value.empty h = h
-value-most k (Value.span t) h = h
-value-most k (Value.interned r) h = counted-most k r h
-value-most k (Value.word w) h = h
-value-most k (Value.pair a b) h = h
-
 adds-most : (k : ℕ) (is : Items) → k ≤ most → k + length (adds k is) ≤ most
 unfolding adds after
 adds-most k (item i is) h =
     let n = after-adds k i in
-    let m = adds-most (after k i) is (value-most (countedName k (i .name)) (i .value) (name-most k (i .name) h)) in
+    let m = adds-most (after k i) is (countedValue-most (countedName k (i .name)) (i .value) (countedName-most k (i .name) h)) in
     omega (arith, length-append (addsItem k i) (adds (after k i) is))
 adds-most k (whole n e) h = omega arith
 adds-most k (lacks n) h = omega arith

@@ -25,12 +25,12 @@ unfolding counted
 counted-most k (new t) h = cond-by (λ n. n ≤ most) (ltb k most) (k + 1) k (λ b. let c = ltb-true k most b in omega arith) (λ _. h)
 counted-most k (known i) h = h
 
-countedName-most : (k : ℕ) (r : Option Ref) → k ≤ most → countedName k r ≤ most
+pub countedName-most : (k : ℕ) (r : Option Ref) → k ≤ most → countedName k r ≤ most
 unfolding countedName
 countedName-most k none h = h
 countedName-most k (some r) h = counted-most k r h
 
-countedValue-most : (k : ℕ) (v : Value) → k ≤ most → countedValue k v ≤ most
+pub countedValue-most : (k : ℕ) (v : Value) → k ≤ most → countedValue k v ≤ most
 unfolding countedValue
 countedValue-most k Value.nothing h = h
 countedValue-most k Value.empty h = h
