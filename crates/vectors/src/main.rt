@@ -1,9 +1,8 @@
-// Replays the Rust's stored answers. Standard input has a document a line, in hex, `=` for the empty one. What the slice reader
-// gives of it is printed on a line: its rows in the listing's form, then `end` and the number of events, or `refused` with number
-// and detail, with `|` between them. A second line has the same from a chunk reader, which is fed the document in small chunks.
-use event::Shape;
+// Replays the Rust's stored answers. Standard input has a document a line, in hex, `=` for the empty one. Its listing is printed
+// twice: from the slice reader, and from a chunk reader, which is fed the document in small chunks.
 use libc::STDIN_FILENO;
 use libc::STDOUT_FILENO;
+use listing::Lined;
 use slice::Created;
 use slice::Next;
 use slice::Place;
@@ -11,130 +10,57 @@ use stream::Answer;
 use stream::Closed;
 use stream::Fed;
 use stream::Stream;
-use wire::Command;
 use wire::Refusal;
 ghost use Prim.Native.Nat.{_+_, _≤_, _<_};
 ghost use lib.ListN.{length};
 
-fn put(s: &[u8]) {
-    io::write_all(STDOUT_FILENO, s);
-}
-
-// ---- a row
-
-pub struct Row {
-    pub kind: u32,
-    pub name_source: u32,
-    pub name_start: u32,
-    pub name_len: u32,
-    pub type_: u32,
-    pub source: u32,
-    pub a: u32,
-    pub b: u32,
-}
-
-fn row_at(rows: &[u32], at: usize) -> Row
-    requires { ⌜ at + 8 ≤ length (now rows) ⌝ }
+fn put(s: &[u8], len: usize)
+    requires { ⌜ len ≤ length (now s) ⌝ }
 {
-    Row {
-        kind: rows[at],
-        name_source: rows[at + 1],
-        name_start: rows[at + 2],
-        name_len: rows[at + 3],
-        type_: rows[at + 4],
-        source: rows[at + 5],
-        a: rows[at + 6],
-        b: rows[at + 7],
-    }
+    io::write_all(STDOUT_FILENO, &s[..len]);
 }
 
-fn show_bytes(s: &[u8]) {
-    if s.len() == 0 {
-        put(b"=");
-        return;
-    }
-    let mut i = 0;
-    while i < s.len() {
-        io::print_hex(STDOUT_FILENO, s[i] as u64, 2);
-        i += 1;
-    }
-}
+// ---- lines
 
-fn show_name<'a>(first: &'a [u8], second: &'a [u8], row: Row) {
-    let kind = row.kind;
-    match kind {
-        Command::START_TAG | Command::END_TAG | Command::ATTRIBUTE => {
-            show_bytes(event::span(first, second, row.name_source, row.name_start, row.name_len));
+// A line of the listing; `?` where it had no room.
+fn show(lined: Lined, line: &[u8]) {
+    match lined {
+        Lined::Line(len) => {
+            if len <= line.len() {
+                put(line, len);
+            }
         }
-        _ => {
-            put(b"-");
+        Lined::Refused(_) => {
+            put(b"?\n", 2);
         }
     }
 }
 
-fn show_type(row: Row) {
-    if row.kind == Command::ATTRIBUTE {
-        io::print_decimal(STDOUT_FILENO, row.type_ as u64);
-    } else {
-        put(b"-");
-    }
-}
-
-fn show_value<'a>(first: &'a [u8], second: &'a [u8], row: Row) {
-    let shape = event::shape_of(row.type_);
-    match shape {
-        Shape::String | Shape::Interned | Shape::Blob => {
-            show_bytes(event::span(first, second, row.source, row.a, row.b));
-        }
-        Shape::Word => {
-            io::print_hex(STDOUT_FILENO, row.b as u64, 8);
-        }
-        Shape::Pair => {
-            io::print_hex(STDOUT_FILENO, row.a as u64, 8);
-            io::print_hex(STDOUT_FILENO, row.b as u64, 8);
-        }
-        Shape::Nothing | Shape::Unknown => {
-            put(b"-");
-        }
-    }
-}
-
-fn show_row<'a>(first: &'a [u8], second: &'a [u8], row: Row) {
-    io::print_decimal(STDOUT_FILENO, row.kind as u64);
-    put(b" ");
-    show_name(first, second, row);
-    put(b" ");
-    show_type(row);
-    put(b" ");
-    show_value(first, second, row);
-    put(b"|");
+// A stored document has under 3,000 bytes, so that a row's line has room.
+fn show_row<'a>(first: &'a [u8], second: &'a [u8], rows: &[u32], row: usize) {
+    let mut line = [0u8; 8_192];
+    let lined = listing::line(first, second, rows, row, &mut line);
+    show(lined, &line);
 }
 
 fn show_rows<'a>(first: &'a [u8], second: &'a [u8], rows: &[u32], count: usize) {
     let mut i = 0;
     while i < count {
-        if i >= rows.len() / 8 {
-            return;
-        }
-        show_row(first, second, row_at(rows, i * 8));
+        show_row(first, second, rows, i);
         i += 1;
     }
 }
 
-// ---- how it ends
-
 fn show_end(events: usize) {
-    put(b"end ");
-    io::print_decimal(STDOUT_FILENO, events as u64);
-    put(b"\n");
+    let mut line = [0u8; 64];
+    let lined = listing::end_line(events, &mut line);
+    show(lined, &line);
 }
 
 fn show_refused(refusal: Refusal) {
-    put(b"refused ");
-    io::print_decimal(STDOUT_FILENO, refusal.number as u64);
-    put(b" ");
-    io::print_decimal(STDOUT_FILENO, refusal.detail as u64);
-    put(b"\n");
+    let mut line = [0u8; 64];
+    let lined = listing::refused_line(refusal, &mut line);
+    show(lined, &line);
 }
 
 // ---- a document, by the slice reader
@@ -369,7 +295,7 @@ fn show_document(document: &[u8]) {
     show_in_chunks(document);
 }
 
-// ---- lines
+// ---- the documents
 
 pub struct Line {
     pub len: usize,
