@@ -3,7 +3,7 @@
 use android_abx::AbxParser;
 use table::Size;
 
-#[allow(dead_code)] // a benchmark uses some of them
+#[allow(dead_code)] // a benchmark uses some of it
 #[path = "../differential/ours.rs"]
 mod ours;
 mod table;

@@ -4,7 +4,7 @@
 use android_abx::{events_to_abx, AbxStreamParser, Attribute, AttributeValue, Event};
 use table::Size;
 
-#[allow(dead_code)] // a benchmark uses some of them
+#[allow(dead_code)] // a benchmark uses some of it
 #[path = "../differential/ours.rs"]
 mod ours;
 mod table;
@@ -32,17 +32,23 @@ fn ours(document: &[u8], chunk: usize, lent: &mut Buffers) -> Size {
     } = lent;
     let mut size = Size::of(document);
     let mut state = [0; 6];
-    assert_eq!(ours::stream_create(&mut state, window, pool, store), [0; 4]);
+    assert_eq!(
+        ours::abx_stream_create(&mut state, window, pool, store),
+        [0; 4]
+    );
     let mut rest = document;
     loop {
-        match ours::stream_next(&mut state, window, pool, store, rows) {
-            [0, count, ..] => size.add(count),
+        match ours::abx_stream_next(&mut state, window, pool, store, rows) {
+            [0, count, _, _] => size.add(count),
             ours::NEED_MORE if rest.is_empty() => {
-                assert_eq!(ours::stream_finish(&mut state, window, pool, store), [0; 4]);
+                assert_eq!(
+                    ours::abx_stream_finish(&mut state, window, pool, store),
+                    [0; 4]
+                );
             }
             ours::NEED_MORE => {
                 let part = &rest[..chunk.min(rest.len())];
-                let [0, taken, ..] = ours::stream_feed(&mut state, window, pool, store, part)
+                let [0, taken, _, _] = ours::abx_stream_feed(&mut state, window, pool, store, part)
                 else {
                     panic!("a feed was refused");
                 };

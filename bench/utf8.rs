@@ -5,14 +5,10 @@ use std::process::ExitCode;
 use std::str::from_utf8;
 use std::time::Instant;
 
-#[link(name = "abx", kind = "static")]
-extern "C" {
-    fn abx_is_utf8(start: *const u8, length: usize) -> bool;
-}
+use library::abx_is_utf8 as ours;
 
-fn ours(text: &[u8]) -> bool {
-    unsafe { abx_is_utf8(text.as_ptr(), text.len()) }
-}
+#[path = "../rust/src/library.rs"]
+mod library;
 
 fn std(text: &[u8]) -> bool {
     from_utf8(text).is_ok()

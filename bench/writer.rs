@@ -4,18 +4,17 @@
 use android_abx::{events_to_abx, AbxParser};
 use table::Size;
 
-#[allow(dead_code)] // a benchmark uses some of them
+#[allow(dead_code)] // a benchmark uses some of it
 #[path = "../differential/ours.rs"]
 mod ours;
-#[allow(dead_code)] // and of these
 mod table;
 
 /// The bytes written.
 fn ours(document: &[u8], rows: &[u32], output: &mut [u8], pool: &mut [u32]) -> usize {
-    let [0, written, names, _] = ours::writer_create(output, pool) else {
+    let [0, written, names, _] = ours::abx_writer_create(output, pool) else {
         panic!("refused");
     };
-    match ours::write_events(written, names, document, &[], rows, output, pool) {
+    match ours::abx_write_events(written, names, document, &[], rows, output, pool) {
         [0, written, _, _] => written,
         answer => panic!("{answer:?}"),
     }

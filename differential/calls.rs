@@ -3,11 +3,11 @@
 
 use android_abx::probe::{self, Outcome};
 use android_abx::AbxParser;
-use harness::common::{self, Read_, Row};
+use harness::common::{Read_, Row};
 
 use crate::documents::{Random, HEADER};
 use crate::ours::{self, refused, Answer, END, NEED_MORE};
-use crate::report::Difference;
+use crate::report::{Compared, Difference};
 use crate::rows;
 use crate::stream::{Lend, Reader};
 
@@ -59,7 +59,9 @@ impl<'a> Trace<'a> {
             let stores = [&self.reader.window.now[..], &self.reader.store.now[..]];
             match rows::read(&stores, &self.reader.rows.now[..8 * count]) {
                 Some(rows) => self.handed.push(rows),
-                None => return Err("a span ends outside its store".into()),
+                None => {
+                    return Err("a span ends outside its store, or an unused word is not 0".into())
+                }
             }
         }
         self.ended |= answer == END;
@@ -73,7 +75,7 @@ impl<'a> Trace<'a> {
 
     /// What holds after every list of calls: what is handed out is a beginning of what the grammar reads from the accepted bytes;
     /// header, events and bytes waiting add up to the accepted bytes, and these wait in the window; End means that all came.
-    pub fn sound(&self) -> Result<(), Difference> {
+    pub fn sound(&self) -> Compared {
         let read = grammar(&self.accepted);
         let beginning = read.len() >= self.handed.len()
             && self
@@ -122,9 +124,7 @@ fn grammar(document: &[u8]) -> Vec<(Vec<Row>, usize)> {
         let Outcome::Event(event, len) = probe::complete(&document[at..], &mut names) else {
             break;
         };
-        let mut rows = vec![];
-        common::rows(&event, &mut rows);
-        events.push((rows, len));
+        events.push((rows::of(&event), len));
         at += len;
     }
     events
@@ -169,7 +169,7 @@ pub fn document(
     expected: &Read_,
     mut size: impl FnMut() -> usize,
     mut random: Option<&mut Random>,
-) -> Result<(), Difference> {
+) -> Compared {
     reader.seen.documents += 1;
     let mut trace = Trace::new(reader)?;
     let mut rest = document;
@@ -227,11 +227,11 @@ pub fn written(document: &[u8]) -> Vec<u8> {
         list.extend_from_slice(rows);
     });
     let mut output = vec![0; 4 * document.len() + 64];
-    let [0, begun, ..] = ours::writer_create(&mut output, &pool) else {
+    let [0, begun, _, _] = ours::abx_writer_create(&mut output, &pool) else {
         panic!("no writer");
     };
-    match ours::write_events(begun, 0, document, &[], &list, &mut output, &mut pool) {
-        [0, written, ..] => output.truncate(written),
+    match ours::abx_write_events(begun, 0, document, &[], &list, &mut output, &mut pool) {
+        [0, written, _, _] => output.truncate(written),
         answer => panic!("the writer refused: {answer:?}"),
     }
     output
@@ -265,7 +265,7 @@ fn any_calls(
     document: &[u8],
     other: Option<&[u8]>,
     random: &mut Random,
-) -> Result<(), Difference> {
+) -> Compared {
     let mut rest = document;
     for _ in 0..random.below(40) {
         match random.below(16) {
@@ -302,7 +302,7 @@ pub fn program(
     document: &[u8],
     other: Option<&[u8]>,
     random: &mut Random,
-) -> Result<(), Difference> {
+) -> Compared {
     reader.seen.documents += 1;
     let mut trace = Trace::new(reader)?;
     any_calls(&mut trace, document, other, random)?;
@@ -311,11 +311,7 @@ pub fn program(
 
 /// A program on what our writer made of a list, with the paper's spaces and no more. Then the rest is fed and finished; the
 /// remaining events come, one a next, and End. What came out is the list.
-pub fn program_on_written(
-    reader: &mut Reader,
-    document: &[u8],
-    random: &mut Random,
-) -> Result<(), Difference> {
+pub fn program_on_written(reader: &mut Reader, document: &[u8], random: &mut Random) -> Compared {
     reader.seen.documents += 1;
     let bytes = written(document);
     reader.lend = spaces(&bytes);
@@ -349,9 +345,8 @@ pub fn program_on_written(
     }
     trace.sound()?;
     trace.reader.whole_tables()?;
-    let mut rows = vec![];
-    list.iter().for_each(|event| common::rows(event, &mut rows));
-    match trace.read(None).rows == rows {
+    let rows = list.iter().flat_map(rows::of);
+    match rows.eq(trace.read(None).rows) {
         true => Ok(()),
         false => Err("what came out is not the list".into()),
     }

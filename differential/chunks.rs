@@ -4,29 +4,9 @@ use harness::common::{read_stream, Read_};
 
 use crate::calls;
 use crate::documents::{self, Random, Visit, HEADER};
-use crate::pool_of;
-use crate::report::{Difference, Report};
+use crate::report::{Compared, Report};
+use crate::slice::pool_of;
 use crate::stream::{Lend, Reader, State, FRESH, MAX_WINDOW};
-
-type Compared = Result<(), Difference>;
-
-/// Runs on a reader, each of which compares something with an input.
-fn section(
-    report: &mut Report,
-    name: &str,
-    mut reader: Reader,
-    run: impl FnOnce(&mut Reader, &mut dyn FnMut(&mut Reader, &[u8], Compared)),
-) {
-    report.section(name, |report| {
-        run(&mut reader, &mut |reader, input, compared| {
-            if let Err(difference) = compared {
-                report.differs(input, difference);
-                reader.renew();
-            }
-        });
-        reader.seen
-    });
-}
 
 /// Documents of up to `len` bytes, each read by the Rust, by our slice reader, and by our chunk reader in the ways given.
 fn read(
@@ -37,7 +17,7 @@ fn read(
     mut ways: impl FnMut(&mut Reader, &[u8], &Read_) -> Compared,
     documents: impl FnOnce(Visit),
 ) {
-    section(report, name, Reader::new(window, len), |reader, compare| {
+    report.section(name, Reader::new(window, len), |compare| {
         documents(&mut |document| {
             // the Rust reads a long start tag anew at each read, so long documents are not read in small pieces
             let chunk = match document.len() {
@@ -45,14 +25,14 @@ fn read(
                 _ => 0,
             };
             let expected = read_stream(document, chunk);
-            let compared =
-                match document.len() <= 16_777_216 && calls::slice_read(document) != expected {
-                    true => {
-                        Err("our slice reader reads otherwise than the Rust's stream reader".into())
-                    }
-                    false => ways(reader, document, &expected),
-                };
-            compare(reader, document, compared);
+            compare(document, &mut |reader| {
+                if document.len() <= 16_777_216 && calls::slice_read(document) != expected {
+                    return Err(
+                        "our slice reader reads otherwise than the Rust's stream reader".into(),
+                    );
+                }
+                ways(reader, document, &expected)
+            });
         });
     });
 }
@@ -87,7 +67,7 @@ fn any_size(random: &mut Random, least: usize, most: usize) -> usize {
 }
 
 /// With any window, in chunks of any sizes up to the limit, with refused calls in between.
-fn anyhow(
+fn any_chunks(
     random: &mut Random,
     limit: usize,
 ) -> impl FnMut(&mut Reader, &[u8], &Read_) -> Compared + '_ {
@@ -105,7 +85,7 @@ fn anyhow(
 /// Start tags that are one to a few bytes shorter or longer than a window, at its start and later, with and without a byte after.
 fn full_windows(report: &mut Report, random: &mut Random) {
     let reader = Reader::new(MAX_WINDOW, MAX_WINDOW + 64);
-    section(report, "stream: full windows", reader, |reader, compare| {
+    report.section("stream: full windows", reader, |compare| {
         for window in [64, 65, 1000, 4096, 65_536, 70_000, MAX_WINDOW] {
             for size in window - 3..=window + 2 {
                 for (before, after) in [("", ""), ("", "11"), ("10", "330000"), ("240002C3A9", "")]
@@ -114,11 +94,12 @@ fn full_windows(report: &mut Report, random: &mut Random) {
                     let body = [&parts.concat()[..], &documents::hex(after)].concat();
                     let document = [&HEADER[..], &body].concat();
                     let expected = calls::slice_read(&document);
-                    reader.lend.window = window;
                     let least = 1 + window / 64;
-                    let size = || any_size(random, least, 70_000.max(least));
-                    let compared = calls::document(reader, &document, &expected, size, None);
-                    compare(reader, &document, compared);
+                    compare(&document, &mut |reader| {
+                        reader.lend.window = window;
+                        let size = || any_size(random, least, 70_000.max(least));
+                        calls::document(reader, &document, &expected, size, None)
+                    });
                 }
             }
         }
@@ -129,29 +110,23 @@ fn full_windows(report: &mut Report, random: &mut Random) {
 fn bad_sizes(report: &mut Report) {
     let mut reader = Reader::new(MAX_WINDOW + 1, 16_777_217);
     reader.grow();
-    section(
-        report,
-        "stream: sizes and states",
-        reader,
-        |reader, compare| {
-            let windows = [0, 63, 64, 65, MAX_WINDOW - 1, MAX_WINDOW, MAX_WINDOW + 1];
-            let pools = [0, 1, 2, 131_069, 131_070, 131_071, 131_072];
-            let stores = [0, 1, 16_777_215, 16_777_216, 16_777_217];
-            for (window, pool, store) in all(&windows, &pools, &stores) {
-                for state in 0..=8 {
-                    let lend = Lend {
-                        state,
-                        window,
-                        pool,
-                        store,
-                        rows: 16,
-                    };
-                    let compared = sizes(reader, lend);
-                    compare(reader, &[], compared);
-                }
+    report.section("stream: sizes and states", reader, |compare| {
+        let windows = [0, 63, 64, 65, MAX_WINDOW - 1, MAX_WINDOW, MAX_WINDOW + 1];
+        let pools = [0, 1, 2, 131_069, 131_070, 131_071, 131_072];
+        let stores = [0, 1, 16_777_215, 16_777_216, 16_777_217];
+        for (window, pool, store) in all(&windows, &pools, &stores) {
+            for state in 0..=8 {
+                let lend = Lend {
+                    state,
+                    window,
+                    pool,
+                    store,
+                    rows: 16,
+                };
+                compare(&[], &mut |reader| sizes(reader, lend));
             }
-        },
-    );
+        }
+    });
 }
 
 fn all(a: &[usize], b: &[usize], c: &[usize]) -> Vec<(usize, usize, usize)> {
@@ -197,79 +172,63 @@ fn sizes(reader: &mut Reader, lend: Lend) -> Compared {
 /// Events anywhere in a window, after names that are parts of the store; of some, a pair ends outside.
 fn anywhere(report: &mut Report, random: &mut Random, rounds: usize) {
     let reader = Reader::new(700, 700);
-    section(
-        report,
-        "stream: any state, any pairs",
-        reader,
-        |reader, compare| {
-            for i in 0..rounds {
-                let window = documents::some(random, 1 + i % 6, [0, 30][i % 2]).0;
-                let mut store = documents::some(random, 2, 0).0;
-                let bytes = store.len();
-                // no name goes on into these
-                store.resize(bytes + [0, 100][random.below(2)], 0xFF);
-                let window = &window[..window.len().min(700)];
-                let (names, pairs) = pool_of(&store, random);
-                let end = random.below(window.len() + 1);
-                let state = State {
-                    start: random.below(end + 1),
-                    end,
-                    names: names.len(),
-                    bytes,
-                    header: !random.once_in(4),
-                    finished: random.once_in(2),
-                };
+    report.section("stream: any state, any pairs", reader, |compare| {
+        for i in 0..rounds {
+            let window = documents::some(random, 1 + i % 6, [0, 30][i % 2]).0;
+            let mut store = documents::some(random, 2, 0).0;
+            let bytes = store.len();
+            // no name goes on into these
+            store.resize(bytes + [0, 100][random.below(2)], 0xFF);
+            let window = &window[..window.len().min(700)];
+            let (names, pairs) = pool_of(&store, random);
+            let end = random.below(window.len() + 1);
+            let state = State {
+                start: random.below(end + 1),
+                end,
+                names: names.len(),
+                bytes,
+                header: !random.once_in(4),
+                finished: random.once_in(2),
+            };
+            let spare = random.below(3);
+            compare(window, &mut |reader| {
                 reader.seen.documents += 1;
-                reader.lend = Lend {
-                    window: end.max(64) + random.below(3),
-                    store: store.len(),
-                    ..reader.lend
-                };
+                reader.lend.window = end.max(64) + spare;
+                reader.lend.store = store.len();
                 reader.place(state, window, &store, &names, &pairs);
-                let compared = reader.next(reader.lend).and_then(|_| reader.whole_tables());
-                let compared = compared.map_err(|e| format!("{e}, the pairs {pairs:?}, {state:?}"));
-                compare(reader, window, compared);
-            }
-        },
-    );
+                let next = reader.next(reader.lend);
+                next.and_then(|_| reader.whole_tables())
+                    .map_err(|e| format!("{e}, the pairs {pairs:?}, {state:?}"))
+            });
+        }
+    });
 }
 
 /// Programs of any calls: on any documents with other bytes in between, and on what our writer made.
 fn programs(report: &mut Report, random: &mut Random, rounds: usize) {
     let reader = Reader::new(700, 2000);
-    section(
-        report,
-        "stream: programs on any bytes",
-        reader,
-        |reader, compare| {
-            for i in 0..rounds {
-                let document = documents::some(random, 1 + i % 12, [0, 30][i % 2]).0;
-                let other = documents::some(random, 1, 0).0;
-                reader.lend = Lend {
-                    window: any_size(random, 64, 700),
-                    pool: 2 * random.below(40),
-                    store: random.below(200),
-                    ..reader.lend
-                };
-                let other = (i % 3 == 0).then_some(&other[..]);
-                let compared = calls::program(reader, &document, other, random);
-                compare(reader, &document, compared);
-            }
-        },
-    );
+    report.section("stream: programs on any bytes", reader, |compare| {
+        for i in 0..rounds {
+            let document = documents::some(random, 1 + i % 12, [0, 30][i % 2]).0;
+            let other = documents::some(random, 1, 0).0;
+            let other = (i % 3 == 0).then_some(&other[..]);
+            compare(&document, &mut |reader| {
+                reader.lend.window = any_size(random, 64, 700);
+                reader.lend.pool = 2 * random.below(40);
+                reader.lend.store = random.below(200);
+                calls::program(reader, &document, other, random)
+            });
+        }
+    });
     let reader = Reader::new(2000, 4000);
-    section(
-        report,
-        "stream: programs on written bytes",
-        reader,
-        |reader, compare| {
-            for i in 0..rounds {
-                let document = documents::some(random, i % 16, 0).0;
-                let compared = calls::program_on_written(reader, &document, random);
-                compare(reader, &document, compared);
-            }
-        },
-    );
+    report.section("stream: programs on written bytes", reader, |compare| {
+        for i in 0..rounds {
+            let document = documents::some(random, i % 16, 0).0;
+            compare(&document, &mut |reader| {
+                calls::program_on_written(reader, &document, random)
+            });
+        }
+    });
 }
 
 pub fn chunk_reader(report: &mut Report, long: bool, random: &mut Random) {
@@ -357,7 +316,7 @@ pub fn chunk_reader(report: &mut Report, long: bool, random: &mut Random) {
         "stream: seeded, any chunks and windows",
         2_000,
         6_000,
-        anyhow(other, 300),
+        any_chunks(other, 300),
         |visit| {
             for i in 0..times(20_000, 600_000) {
                 visit(&documents::some(random, 1 + i % 40, [0, 0, 400][i % 3]).0);
@@ -369,7 +328,7 @@ pub fn chunk_reader(report: &mut Report, long: bool, random: &mut Random) {
         "stream: 300 events, any chunks and windows",
         MAX_WINDOW,
         60_000,
-        anyhow(other, 70_000),
+        any_chunks(other, 70_000),
         |visit| {
             for i in 0..times(60, 3_000) {
                 visit(&documents::some(random, 300, [0, 2_000][i % 2]).0);
@@ -381,7 +340,7 @@ pub fn chunk_reader(report: &mut Report, long: bool, random: &mut Random) {
         "stream: long strings",
         200_000,
         70_000,
-        anyhow(other, 70_000),
+        any_chunks(other, 70_000),
         |visit| {
             documents::long_strings(&mut |document| {
                 if long || random.once_in(10) {

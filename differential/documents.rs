@@ -2,6 +2,9 @@
 
 pub const HEADER: [u8; 4] = [0x41, 0x42, 0x58, 0x00];
 
+/// For calls that are refused whatever the document holds.
+pub const TINY: [&[u8]; 5] = [&HEADER, b"", b"ABX\0\x10", b"ABX\0\x2F", b"AB"];
+
 pub type Visit<'a> = &'a mut dyn FnMut(&[u8]);
 
 /// Bytes from hex digits and spaces.

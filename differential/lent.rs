@@ -29,6 +29,11 @@ impl<T: Copy + PartialEq> Lent<T> {
         }
     }
 
+    /// All as unwritten again.
+    pub fn renew(&mut self) {
+        *self = Lent::new(self.len(), self.unwritten);
+    }
+
     pub fn len(&self) -> usize {
         self.now.len()
     }

@@ -10,11 +10,10 @@ use harness::common::map_error;
 
 use crate::documents::{self, Random, Visit, HEADER};
 use crate::lent::{unwritten_word, Lent};
-use crate::ours;
-use crate::ours_queries::{ask, ask_into, Of, Query, Told, ALL};
-use crate::report::{Difference, Report, Seen};
-use crate::rows;
-use crate::slice::{has, OUTSIDE};
+use crate::ours::{self, ask, Query, QueryKind, Told};
+use crate::report::{Compared, Difference, Report, Seen, Tested};
+use crate::rows::{self, has};
+use crate::slice::{edges, same, OUTSIDE};
 use crate::walk::{Walk, POOL_LIMIT};
 
 /// A call on a reader.
@@ -71,8 +70,20 @@ pub struct Asker {
     pool: Lent<u32>,
     rows: Lent<u32>,
     written: usize,
-    pub seen: Seen,
-    pub counts: Counts,
+    seen: Seen,
+    counts: Counts,
+}
+
+impl Tested for Asker {
+    fn seen(&self) -> &Seen {
+        &self.seen
+    }
+
+    fn renew(&mut self) {
+        self.pool.renew();
+        self.rows.renew();
+        self.written = 0;
+    }
 }
 
 impl Asker {
@@ -93,19 +104,8 @@ impl Asker {
         }
     }
 
-    pub fn renew(&mut self) {
-        self.pool = Lent::new(self.pool.len(), unwritten_word);
-        self.rows = Lent::new(self.rows.len(), unwritten_word);
-        self.written = 0;
-    }
-
     /// Random calls on one reader, each of them held against the Rust's.
-    pub fn document(
-        &mut self,
-        document: &[u8],
-        random: &mut Random,
-        calls: usize,
-    ) -> Result<(), Difference> {
+    pub fn document(&mut self, document: &[u8], random: &mut Random, calls: usize) -> Compared {
         if AbxParser::new(document).is_err() {
             return Ok(());
         }
@@ -128,7 +128,7 @@ impl Asker {
     }
 
     /// A query from any event on, after names whose pairs are given. One of them may end outside: 19 where it is used.
-    pub fn place(&mut self, document: &[u8], random: &mut Random) -> Result<(), Difference> {
+    pub fn place(&mut self, document: &[u8], random: &mut Random) -> Compared {
         self.know(document, 4, &[], &[])?;
         let from = random.below(self.events.len() + 1);
         let [at, count] = self.place_of(from);
@@ -151,54 +151,40 @@ impl Asker {
             .map_err(|e| format!("{e}, {query:?}, the pairs {pairs:?}"))
     }
 
-    /// Sizes (17) before states (19), and both before the rest. An answer is written where there is room for seven words.
-    pub fn lent(&mut self, document: &[u8], good: bool) -> Result<(), Difference> {
+    /// Sizes and states on their edges. An answer is written where there is room for seven words.
+    pub fn lent(&mut self, document: &[u8], good: bool) -> Compared {
         self.pool.grow(131_072);
         self.rows.grow(64);
         self.renew();
-        for of in ALL {
+        for kind in QueryKind::ALL {
             let query = Query {
-                of,
+                kind,
                 element: b"p".to_vec(),
                 name: b"".to_vec(),
             };
-            for pool in [0, 1, 2, 131_069, 131_070, 131_071, 131_072] {
-                let bad = !good || pool % 2 == 1 || pool > 131_070;
-                for at in [0, 4, document.len(), document.len() + 1, usize::MAX] {
-                    for names in [0, pool / 2, pool / 2 + 1, usize::MAX / 2 + 1, usize::MAX] {
-                        let outside = at > document.len() || names > pool / 2;
-                        let told = if bad {
-                            [2, at, names, 0, 0, 17, 0]
-                        } else if outside {
-                            [2, at, names, 0, 0, 19, 0]
-                        } else if at == document.len() {
-                            [1, at, names, 0, 0, 0, 0]
-                        } else {
-                            continue;
-                        };
-                        self.seen.calls += 1;
-                        self.counts.refusals[of as usize][told[5]] += 1;
-                        self.seen.refusals[told[5]] += u64::from(told[0] == 2);
-                        let (p, r) = (&mut self.pool.now[..pool], &mut self.rows.now[..16]);
-                        same(ask(&query, [at, names], document, p, r), told)?;
-                    }
-                }
+            for edge in edges(document, good) {
+                let number = edge.refusal.unwrap_or(0) as usize;
+                let what = if number == 0 { 1 } else { 2 };
+                let place = [edge.at, edge.names];
+                self.seen.calls += 1;
+                self.count(kind, what, number);
+                let pool = &mut self.pool.now[..edge.pool];
+                let rows = &mut self.rows.now[..16];
+                let told = ask(&query, place, document, pool, rows);
+                same(
+                    "a query",
+                    told,
+                    [what, edge.at, edge.names, 0, 0, number, 0],
+                )?;
             }
-            for room in 0..10 {
-                let mut answer = vec![usize::MAX; room];
-                ask_into(
-                    &query,
-                    [document.len() + 1, 3],
-                    document,
-                    &mut [],
-                    &mut [],
-                    &mut answer,
-                );
-                let number = if good { 19 } else { 17 };
-                let mut expected = [2, document.len() + 1, 3, 0, 0, number, 0].to_vec();
-                expected.resize(room.max(7), usize::MAX);
-                if room < 7 {
-                    expected = vec![usize::MAX; room];
+            let number = if good { 19 } else { 17 };
+            let outside = [document.len() + 1, 3];
+            let told = [2, outside[0], outside[1], 0, 0, number, 0];
+            let answers = answers_of(&query, outside, document);
+            for (room, answer) in answers.into_iter().enumerate() {
+                let mut expected = vec![usize::MAX; room];
+                if room >= 7 {
+                    expected[..7].copy_from_slice(&told);
                 }
                 if answer != expected {
                     return Err(format!("an answer of {room} words: {answer:?}"));
@@ -220,7 +206,7 @@ impl Asker {
         at: usize,
         names: &[InternedStr],
         pairs: &[[u32; 2]],
-    ) -> Result<(), Difference> {
+    ) -> Compared {
         self.seen.documents += 1;
         self.pool.clear(2 * self.names.len());
         self.events.clear();
@@ -302,16 +288,19 @@ impl Asker {
         let named = (0..attributes.len())
             .filter(|i| attributes[*i].name.as_bytes() == query.name)
             .map(|i| passed.row + 1 + i);
-        match query.of {
-            Of::FindAttribute => named.take(1).collect(),
-            Of::FindAllAttributes => named.collect(),
+        match query.kind {
+            QueryKind::FindAttribute => named.take(1).collect(),
+            QueryKind::FindAllAttributes => named.collect(),
             _ => (passed.row..=passed.row + attributes.len()).collect(),
         }
     }
 
     /// With so many words of pool and rows.
     fn expected(&self, from: usize, query: &Query, pool: usize, room: usize) -> Expected {
-        let single = matches!(query.of, Of::FindAttribute | Of::AttributesOf);
+        let single = matches!(
+            query.kind,
+            QueryKind::FindAttribute | QueryKind::AttributesOf
+        );
         let mut rows = vec![];
         let mut index = from;
         let (what, refusal) = loop {
@@ -372,34 +361,38 @@ impl Asker {
         let (p, r) = (&mut self.pool.now[..pool], &mut self.rows.now[..room]);
         let answer = ask(query, old, document, p, r);
         let (number, detail) = expected.refusal;
-        same(
-            answer,
-            [
-                expected.what,
-                new[0],
-                new[1],
-                expected.events,
-                expected.rows.len(),
-                number as usize,
-                detail as usize,
-            ],
-        )
-        .and_then(|()| match self.rows.holds_all() {
-            true => Ok(()),
-            false => Err(format!("rows after the query, which answered {answer:?}")),
-        })
-        .and_then(|()| match self.pool.holds_all() {
-            true => Ok(()),
-            false => Err(format!("pool after the query, which answered {answer:?}")),
-        })
-        .map_err(|e| format!("{e}, from {old:?} with {pool} words of pool and {room} of rows"))?;
-        let of = query.of as usize;
-        self.counts.endings[of][expected.what] += 1;
-        self.counts.refusals[of][number as usize] += 1;
-        if expected.what == 2 {
-            self.seen.refusals[number as usize] += 1;
-        }
+        let told: Told = [
+            expected.what,
+            new[0],
+            new[1],
+            expected.events,
+            expected.rows.len(),
+            number as usize,
+            detail as usize,
+        ];
+        same("a query", answer, told)
+            .and_then(|()| match self.rows.holds_all() {
+                true => Ok(()),
+                false => Err(format!("rows after the query, which answered {answer:?}")),
+            })
+            .and_then(|()| match self.pool.holds_all() {
+                true => Ok(()),
+                false => Err(format!("pool after the query, which answered {answer:?}")),
+            })
+            .map_err(|e| {
+                format!("{e}, from {old:?} with {pool} words of pool and {room} of rows")
+            })?;
+        self.counts.endings[query.kind as usize][expected.what] += 1;
+        self.count(query.kind, expected.what, number as usize);
         Ok(expected)
+    }
+
+    /// A refusal, if it is one.
+    fn count(&mut self, kind: QueryKind, what: usize, number: usize) {
+        if what == 2 {
+            self.counts.refusals[kind as usize][number] += 1;
+            self.seen.refusals[number] += 1;
+        }
     }
 
     /// One row too few, one pair too few, and any room; after each the pool is as it was before.
@@ -409,7 +402,7 @@ impl Asker {
         from: usize,
         query: &Query,
         random: &mut Random,
-    ) -> Result<(), Difference> {
+    ) -> Compared {
         let whole = self.expected(from, query, self.pool.len(), self.rows.len());
         let (rows, names) = (whole.rows.len(), self.place_of(from + whole.events)[1]);
         let old = self.place_of(from)[1];
@@ -477,25 +470,24 @@ impl Asker {
                 self.events.len()
             ));
         }
-        let list = matches!(query.of, Of::FindAllAttributes | Of::AllAttributesOf);
+        let list = matches!(
+            query.kind,
+            QueryKind::FindAllAttributes | QueryKind::AllAttributesOf
+        );
         if list && said.what == 2 {
             // the Rust drops them; it gives them of the document up to the refused event
             said = rust(&document[..self.end[0]], made).0;
             self.counts.dropped += 1;
             self.counts.dropped_rows += left.rows.len() as u64;
         }
-        let tags = matches!(query.of, Of::AttributesOf | Of::AllAttributesOf);
-        let mut words = self.rows.now[..8 * left.rows.len()].chunks_exact(8);
-        let mut all = true;
-        for tag in &said.tags {
-            rows::each(tag, |row| {
-                if row.kind == 15 || tags {
-                    self.seen.row(row.kind, row.of);
-                    all = all && words.next().is_some_and(|w| rows::row_says(&[document], w, row));
-                }
-            });
-        }
-        if !all || words.next().is_some() {
+        let tags = matches!(
+            query.kind,
+            QueryKind::AttributesOf | QueryKind::AllAttributesOf
+        );
+        let words = &self.rows.now[..8 * left.rows.len()];
+        let mut rows: Vec<_> = said.tags.iter().flat_map(rows::of).collect();
+        rows.retain(|row| row.kind == 15 || tags);
+        if !rows::say(&[document], words, &rows, &mut self.seen) {
             return Err(format!("rows {:?} and not {:?}", left.rows, said.tags));
         }
         Ok(to)
@@ -526,7 +518,7 @@ impl Asker {
         }
         self.seen.calls += 1;
         let (p, r) = (&mut self.pool.now[..], &mut self.rows.now[..]);
-        let answer = ours::slice_next(old[0], old[1], document, p, r);
+        let answer = ours::abx_slice_next(old[0], old[1], document, p, r);
         if answer != expected || !self.rows.holds_all() || !self.pool.holds_all() {
             return Err(format!("next answered {answer:?} and not {expected:?}"));
         }
@@ -590,18 +582,21 @@ impl Asker {
             }
         }
         Query {
-            of: ALL[random.below(4)],
+            kind: QueryKind::ALL[random.below(4)],
             element,
             name,
         }
     }
 }
 
-fn same(answer: Told, expected: Told) -> Result<(), Difference> {
-    if answer == expected {
-        return Ok(());
+/// The answers to a query at a place outside, with room for 0 to 9 words.
+fn answers_of(query: &Query, outside: [usize; 2], document: &[u8]) -> [Vec<usize>; 10] {
+    macro_rules! answers {
+        ($($room:literal),*) => {
+            [$(ask::<$room>(query, outside, document, &mut [], &mut []).to_vec()),*]
+        };
     }
-    Err(format!("a query answered {answer:?} and not {expected:?}"))
+    answers!(0, 1, 2, 3, 4, 5, 6, 7, 8, 9)
 }
 
 /// The last of these calls by a new reader of the Rust's, and how many events it has left then.
@@ -647,17 +642,17 @@ fn by_rust(parser: &mut AbxParser, call: &Call) -> Said {
                 Some(event) => said(0, vec![event]),
                 None => said(1, vec![]),
             };
-            match query.of {
-                Of::FindAttribute => parser
+            match query.kind {
+                QueryKind::FindAttribute => parser
                     .find_attribute(element, name)
                     .map(|value| single(value.map(one))),
-                Of::AttributesOf => parser
+                QueryKind::AttributesOf => parser
                     .attributes_of(element)
                     .map(|all| single(all.map(tag))),
-                Of::FindAllAttributes => parser
+                QueryKind::FindAllAttributes => parser
                     .find_all_attributes(element, name)
                     .map(|all| said(1, all.into_iter().map(one).collect())),
-                Of::AllAttributesOf => parser
+                QueryKind::AllAttributesOf => parser
                     .all_attributes_of(element)
                     .map(|all| said(1, all.into_iter().map(tag).collect())),
             }
@@ -737,18 +732,15 @@ fn section(
     calls: usize,
     documents: impl FnOnce(&mut Random, Visit),
 ) {
-    report.section(name, |report| {
-        let mut asker = Asker::new();
+    let asker = report.section(name, Asker::new(), |compare| {
         let mut asks = Random::new(random.below(1 << 30) as u64);
         documents(random, &mut |document| {
-            if let Err(difference) = asker.document(document, &mut asks, calls) {
-                report.differs(document, difference);
-                asker.renew();
-            }
+            compare(document, &mut |asker| {
+                asker.document(document, &mut asks, calls)
+            });
         });
-        counts.add(&asker.counts);
-        asker.seen
     });
+    counts.add(&asker.counts);
 }
 
 impl Counts {
@@ -817,37 +809,28 @@ pub fn queries(report: &mut Report, long: bool, random: &mut Random) {
         true => (65_533..=65_538).for_each(|count| documents::many_names(count, visit)),
         false => documents::many_names(65_536, visit),
     });
-    report.section("queries: any place, a pair outside", |report| {
-        let mut asker = Asker::new();
+    let name = "queries: any place, a pair outside";
+    let asker = report.section(name, Asker::new(), |compare| {
         for i in 0..if long { 1_000_000 } else { 40_000 } {
             let document = match i % 2 {
                 0 => documents::some(random, 1 + i % 12, 0).0,
                 _ => few_names(random, 1 + i % 12, 0),
             };
-            if let Err(difference) = asker.place(&document, random) {
-                report.differs(&document, difference);
-                asker.renew();
-            }
+            compare(&document, &mut |asker| asker.place(&document, random));
         }
-        counts.add(&asker.counts);
-        asker.seen
     });
-    report.section("queries: sizes and states", |report| {
-        let mut asker = Asker::new();
-        let mut check = |document: &[u8], good| {
-            if let Err(difference) = asker.lent(document, good) {
-                report.differs(document, difference);
-                asker.renew();
-            }
+    counts.add(&asker.counts);
+    let asker = report.section("queries: sizes and states", Asker::new(), |compare| {
+        let mut lent = |document: &[u8], good| {
+            compare(document, &mut |asker| asker.lent(document, good));
         };
-        for document in [&HEADER[..], b"", b"ABX\0\x10", b"ABX\0\x2F", b"AB"] {
-            check(document, true);
+        for document in documents::TINY {
+            lent(document, true);
         }
-        check(&vec![0; 16_777_216], true);
-        check(&vec![0; 16_777_217], false);
-        counts.add(&asker.counts);
-        asker.seen
+        lent(&vec![0; 16_777_216], true);
+        lent(&vec![0; 16_777_217], false);
     });
+    counts.add(&asker.counts);
     println!(
         "queries found, done, refused: {:?}; {} lists that the Rust dropped, of {} rows",
         counts.endings, counts.dropped, counts.dropped_rows

@@ -3,8 +3,14 @@
 use std::process::ExitCode;
 use std::time::Instant;
 
+use harness::common::Row;
+
+use crate::ours::Answer;
+
 /// What a difference is, for the reader of the report.
 pub type Difference = String;
+
+pub type Compared = Result<(), Difference>;
 
 /// What was compared, to see that nothing is left out.
 #[derive(Default)]
@@ -18,14 +24,32 @@ pub struct Seen {
 }
 
 impl Seen {
-    /// A row of this kind, and of this type where it is an attribute.
-    pub fn row(&mut self, kind: u32, of: u32) {
-        self.kinds[kind as usize] += 1;
-        if kind == 15 {
-            self.types[of as usize] += 1;
+    /// A row's kind, and its type where it is an attribute.
+    pub fn row(&mut self, row: &Row) {
+        self.kinds[usize::from(row.kind)] += 1;
+        if row.kind == 15 {
+            self.types[usize::from(row.ty)] += 1;
+        }
+    }
+
+    /// An answer's refusal, if it is one.
+    pub fn refusal(&mut self, answer: Answer) {
+        if let [2, number, ..] = answer {
+            self.refusals[number] += 1;
         }
     }
 }
+
+/// A reader or a writer of ours with the tables that it is lent, beside what the Rust and the paper say of it.
+pub trait Tested {
+    fn seen(&self) -> &Seen;
+
+    /// All tables as they should be again, after a difference.
+    fn renew(&mut self);
+}
+
+/// Takes an input, and what compares something on it.
+pub type Compare<'a, T> = &'a mut dyn FnMut(&[u8], &mut dyn FnMut(&mut T) -> Compared);
 
 #[derive(Default)]
 pub struct Report {
@@ -35,11 +59,22 @@ pub struct Report {
 }
 
 impl Report {
-    /// A part of the comparison, with its line of the report. `run` says what was seen.
-    pub fn section(&mut self, name: &str, run: impl FnOnce(&mut Report) -> Seen) {
+    /// Comparisons of one kind, with their line of the report. What they were made with comes back.
+    pub fn section<T: Tested>(
+        &mut self,
+        name: &str,
+        mut tested: T,
+        run: impl FnOnce(Compare<T>),
+    ) -> T {
         let begin = Instant::now();
         let before = self.differences;
-        let seen = run(self);
+        run(&mut |input, compare| {
+            if let Err(difference) = compare(&mut tested) {
+                self.differs(input, difference);
+                tested.renew();
+            }
+        });
+        let seen = tested.seen();
         println!(
             "{name:44} {:9} documents {:9} events {:10} calls {:5} differ {:6.1} s",
             seen.documents,
@@ -48,7 +83,8 @@ impl Report {
             self.differences - before,
             begin.elapsed().as_secs_f64(),
         );
-        self.add(&seen);
+        self.add(seen);
+        tested
     }
 
     pub fn differs(&mut self, document: &[u8], difference: Difference) {

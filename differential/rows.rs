@@ -1,25 +1,9 @@
-//! The Rust's events as rows, without places; what our rows say.
+//! The rows that the Rust's events have, and what ours say.
 
-use android_abx::{AttributeValue, Event};
-use harness::common::{self, Val};
+use android_abx::Event;
+use harness::common::{self, Row, Val};
 
 use crate::report::Seen;
-
-/// A row: its kind, its name, its type (`of`) and its value.
-pub struct Row<'a> {
-    pub kind: u32,
-    pub name: Option<&'a str>,
-    pub of: u32,
-    pub value: Value<'a>,
-}
-
-/// A float is carried by its bits.
-pub enum Value<'a> {
-    None,
-    Bytes(&'a [u8]),
-    Word(u32),
-    Pair(u64),
-}
 
 pub fn count(event: &Event) -> usize {
     match event {
@@ -28,62 +12,20 @@ pub fn count(event: &Event) -> usize {
     }
 }
 
-pub fn each<'a>(event: &'a Event, mut visit: impl FnMut(Row<'a>)) {
-    let (kind, name, text) = match event {
-        Event::StartDocument => (0, None, None),
-        Event::EndDocument => (1, None, None),
-        Event::StartTag { name, .. } => (2, Some(&name[..]), None),
-        Event::EndTag { name } => (3, Some(&name[..]), None),
-        Event::Text(s) => (4, None, Some(s)),
-        Event::CdataSection(s) => (5, None, Some(s)),
-        Event::EntityReference(s) => (6, None, Some(s)),
-        Event::IgnorableWhitespace(s) => (7, None, Some(s)),
-        Event::ProcessingInstruction(s) => (8, None, Some(s)),
-        Event::Comment(s) => (9, None, Some(s)),
-        Event::DocDecl(s) => (10, None, Some(s)),
-    };
-    let (of, value) = match text {
-        None => (0, Value::None),
-        Some(s) => (2, Value::Bytes(s.as_bytes())),
-    };
-    visit(Row {
-        kind,
-        name,
-        of,
-        value,
-    });
-    let Event::StartTag { attributes, .. } = event else {
-        return;
-    };
-    for attribute in attributes {
-        let (of, value) = value_of(&attribute.value);
-        visit(Row {
-            kind: 15,
-            name: Some(&attribute.name),
-            of,
-            value,
-        });
-    }
+/// The rows of an event that the Rust gave.
+pub fn of(event: &Event) -> Vec<Row> {
+    let mut rows = vec![];
+    common::rows(event, &mut rows);
+    rows
 }
 
-fn value_of(value: &AttributeValue) -> (u32, Value<'_>) {
-    match value {
-        AttributeValue::Null => (1, Value::None),
-        AttributeValue::String(s) => (2, Value::Bytes(s.as_bytes())),
-        AttributeValue::BytesHex(b) => (4, Value::Bytes(b)),
-        AttributeValue::BytesBase64(b) => (5, Value::Bytes(b)),
-        AttributeValue::Int(v) => (6, Value::Word(*v as u32)),
-        AttributeValue::IntHex(v) => (7, Value::Word(*v)),
-        AttributeValue::Long(v) => (8, Value::Pair(*v as u64)),
-        AttributeValue::LongHex(v) => (9, Value::Pair(*v)),
-        AttributeValue::Float(v) => (10, Value::Word(v.to_bits())),
-        AttributeValue::Double(v) => (11, Value::Pair(v.to_bits())),
-        AttributeValue::Boolean(true) => (12, Value::None),
-        AttributeValue::Boolean(false) => (13, Value::None),
-    }
+/// Whether a name or a value of the event is this.
+pub fn has(event: &Event, text: &str) -> bool {
+    let text = text.as_bytes();
+    of(event).iter().any(|row| {
+        row.name.as_deref() == Some(text) || matches!(&row.val, Val::Bytes(bytes) if bytes == text)
+    })
 }
-
-// ---- what our rows say
 
 /// The bytes that source, start and length name. The slice reader has one store, a chunk reader two.
 pub fn span<'a>(stores: &[&'a [u8]], words: &[u32]) -> Option<&'a [u8]> {
@@ -91,53 +33,42 @@ pub fn span<'a>(stores: &[&'a [u8]], words: &[u32]) -> Option<&'a [u8]> {
     stores.get(source)?.get(start..start + len)
 }
 
-/// Whether eight words say a row: every word that it does not use is 0.
-pub fn row_says(stores: &[&[u8]], words: &[u32], row: Row) -> bool {
-    let named = match row.name {
-        None => words[1..4] == [0, 0, 0],
-        Some(name) => span(stores, &words[1..4]) == Some(name.as_bytes()),
+/// What a row's words say, with the bytes that their spans name. None if a span ends outside, or a word that is not used is not 0.
+fn row(stores: &[&[u8]], words: &[u32]) -> Option<Row> {
+    let bytes = |words| span(stores, words).map(<[u8]>::to_vec);
+    let name = match (words[0], &words[1..4]) {
+        (2 | 3 | 15, name) => Some(bytes(name)?),
+        (_, [0, 0, 0]) => None,
+        _ => return None,
     };
-    let valued = match row.value {
-        Value::None => words[5..] == [0, 0, 0],
-        Value::Bytes(bytes) => span(stores, &words[5..]) == Some(bytes),
-        Value::Word(word) => words[5..] == [0, 0, word],
-        Value::Pair(pair) => words[5..] == [0, (pair >> 32) as u32, pair as u32],
+    let val = match (words[4], &words[5..]) {
+        (2 | 4 | 5, value) => Val::Bytes(bytes(value)?),
+        (6 | 7 | 10, [0, 0, word]) => Val::B32(*word),
+        (8 | 9 | 11, [0, high, low]) => Val::B64(u64::from(*high) << 32 | u64::from(*low)),
+        (_, [0, 0, 0]) => Val::None,
+        _ => return None,
     };
-    words[0] == row.kind && named && words[4] == row.of && valued
+    Some(Row {
+        kind: words[0].try_into().ok()?,
+        name,
+        ty: words[4].try_into().ok()?,
+        val,
+    })
 }
 
-/// Whether the words say the event.
-pub fn says(stores: &[&[u8]], words: &[u32], event: &Event, seen: &mut Seen) -> bool {
-    let mut words = words.chunks_exact(8);
-    let mut all = true;
-    each(event, |row| {
-        seen.row(row.kind, row.of);
-        all = all && words.next().is_some_and(|w| row_says(stores, w, row));
-    });
-    all && words.next().is_none()
+pub fn read(stores: &[&[u8]], words: &[u32]) -> Option<Vec<Row>> {
+    words
+        .chunks_exact(8)
+        .map(|words| row(stores, words))
+        .collect()
 }
 
-/// What the words say, with the bytes that their spans name.
-pub fn read(stores: &[&[u8]], words: &[u32]) -> Option<Vec<common::Row>> {
-    let row = |words: &[u32]| {
-        let bytes = |words| span(stores, words).map(<[u8]>::to_vec);
-        let name = match words[0] {
-            2 | 3 | 15 => Some(bytes(&words[1..4])?),
-            _ => None,
-        };
-        let val = match words[4] {
-            2 | 4 | 5 => Val::Bytes(bytes(&words[5..])?),
-            6 | 7 | 10 => Val::B32(words[7]),
-            8 | 9 | 11 => Val::B64(u64::from(words[6]) << 32 | u64::from(words[7])),
-            _ => Val::None,
-        };
-        let (kind, ty) = (words[0] as u8, words[4] as u8);
-        Some(common::Row {
-            kind,
-            name,
-            ty,
-            val,
-        })
-    };
-    words.chunks_exact(8).map(row).collect()
+/// Whether the words say these rows.
+pub fn say(stores: &[&[u8]], words: &[u32], rows: &[Row], seen: &mut Seen) -> bool {
+    rows.iter().for_each(|row| seen.row(row));
+    words.len() == 8 * rows.len()
+        && words
+            .chunks_exact(8)
+            .zip(rows)
+            .all(|(words, expected)| row(stores, words).as_ref() == Some(expected))
 }

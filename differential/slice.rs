@@ -1,20 +1,23 @@
 //! One document, read by our slice reader and by the Rust's `AbxParser`.
 
+use std::fmt::Debug;
+
 use android_abx::probe::{self, Outcome};
 use android_abx::{AbxParser, Event, InternedStr};
 use harness::common::map_error;
 
+use crate::documents::{self, Random, Visit};
 use crate::lent::{unwritten_word, Lent};
 use crate::ours::{self, refused, Answer, END};
-use crate::report::{Difference, Seen};
-use crate::rows::{self, says, span, Value};
+use crate::report::{Compared, Report, Seen, Tested};
+use crate::rows::{self, has, span};
 use crate::walk::{Walk, POOL_LIMIT};
 
 pub struct Reader {
     pool: Lent<u32>,
     rows: Lent<u32>,
     names: Vec<InternedStr>,
-    pub seen: Seen,
+    seen: Seen,
 }
 
 /// The words lent in a call: none to spare, or all that there are.
@@ -22,6 +25,17 @@ pub struct Reader {
 struct Lend {
     pool: usize,
     rows: usize,
+}
+
+impl Tested for Reader {
+    fn seen(&self) -> &Seen {
+        &self.seen
+    }
+
+    fn renew(&mut self) {
+        self.pool.renew();
+        self.rows.renew();
+    }
 }
 
 impl Reader {
@@ -36,28 +50,23 @@ impl Reader {
         }
     }
 
-    /// Tables that hold what they should again, after a difference.
-    pub fn renew(&mut self) {
-        self.pool = Lent::new(self.pool.len(), unwritten_word);
-        self.rows = Lent::new(self.rows.len(), unwritten_word);
-    }
-
     /// Compares all that the two make of a document.
-    pub fn document(&mut self, document: &[u8]) -> Result<(), Difference> {
+    pub fn document(&mut self, document: &[u8]) -> Compared {
         self.seen.documents += 1;
         self.start();
         self.read(document)?;
         self.whole_tables()
     }
 
-    fn read(&mut self, document: &[u8]) -> Result<(), Difference> {
-        let created = ours::slice_create(document, &self.pool.now);
+    fn read(&mut self, document: &[u8]) -> Compared {
+        let created = ours::abx_slice_create(document, &self.pool.now);
         let mut parser = match AbxParser::new(document) {
             Ok(parser) => parser,
             Err(error) => {
                 let (number, detail) = map_error(&error);
-                self.seen.refusals[number as usize] += 1;
-                return same("create", created, refused(number, detail));
+                let expected = refused(number, detail);
+                self.seen.refusal(expected);
+                return same("create", created, expected);
             }
         };
         same("create", created, [0, 4, 0, 0])?;
@@ -100,7 +109,7 @@ impl Reader {
         at: usize,
         names: &[InternedStr],
         pairs: &[[u32; 2]],
-    ) -> Result<(), Difference> {
+    ) -> Compared {
         self.seen.documents += 1;
         self.start();
         for (i, pair) in pairs.iter().enumerate() {
@@ -132,33 +141,21 @@ impl Reader {
         self.whole_tables()
     }
 
-    /// What the paper refuses and the Rust does not know: sizes (17) before states (19), and both before the rest.
-    pub fn lent(&mut self, document: &[u8], good: bool) -> Result<(), Difference> {
+    /// What the paper refuses and the Rust does not know, whatever the document holds.
+    pub fn lent(&mut self, document: &[u8], good: bool) -> Compared {
         self.start();
         self.pool.grow(131_072);
-        let bad_size = refused(17, 0);
-        for pool in [0, 1, 2, 131_069, 131_070, 131_071, 131_072] {
-            let bad = !good || pool % 2 == 1 || pool > 131_070;
-            let created = ours::slice_create(document, &self.pool.now[..pool]);
-            if bad {
-                same("create", created, bad_size)?;
+        for edge in edges(document, good) {
+            let expected = edge.refusal.map_or(END, |number| refused(number, 0));
+            if edge.refusal == Some(17) {
+                let created = ours::abx_slice_create(document, &self.pool.now[..edge.pool]);
+                same("create", created, expected)?;
             }
-            for at in [0, 4, document.len(), document.len() + 1, usize::MAX] {
-                for names in [0, pool / 2, pool / 2 + 1, usize::MAX / 2 + 1, usize::MAX] {
-                    let outside = at > document.len() || names > pool / 2;
-                    let expected = if bad {
-                        bad_size
-                    } else if outside {
-                        refused(19, 0)
-                    } else if at == document.len() {
-                        END
-                    } else {
-                        continue;
-                    };
-                    let lend = Lend { pool, rows: 16 };
-                    self.call(document, at, names, lend, expected)?;
-                }
-            }
+            let lend = Lend {
+                pool: edge.pool,
+                rows: 16,
+            };
+            self.call(document, edge.at, edge.names, lend, expected)?;
         }
         self.whole_tables()
     }
@@ -168,7 +165,7 @@ impl Reader {
         self.names.clear();
     }
 
-    fn whole_tables(&self) -> Result<(), Difference> {
+    fn whole_tables(&self) -> Compared {
         if self.pool.holds_all() && self.rows.holds_all() {
             return Ok(());
         }
@@ -179,7 +176,7 @@ impl Reader {
         self.seen.calls += 1;
         let pool = &mut self.pool.now[..lend.pool];
         let rows = &mut self.rows.now[..lend.rows];
-        ours::slice_next(at, names, document, pool, rows)
+        ours::abx_slice_next(at, names, document, pool, rows)
     }
 
     /// A call that should answer this. The tables should then hold what is expected of them.
@@ -190,10 +187,8 @@ impl Reader {
         names: usize,
         lend: Lend,
         expected: Answer,
-    ) -> Result<(), Difference> {
-        if expected[0] == 2 {
-            self.seen.refusals[expected[1]] += 1;
-        }
+    ) -> Compared {
+        self.seen.refusal(expected);
         let answer = self.answer(document, at, names, lend);
         same("next", answer, expected).map_err(|e| format!("{e} at {at}"))?;
         let (written, after) = match expected {
@@ -214,7 +209,7 @@ impl Reader {
     }
 
     /// The end or a refusal, twice: with nothing to spare, and with all that there is.
-    fn no_event(&mut self, document: &[u8], at: usize, expected: Answer) -> Result<(), Difference> {
+    fn no_event(&mut self, document: &[u8], at: usize, expected: Answer) -> Compared {
         let names = self.names.len().min(POOL_LIMIT);
         let tight = Lend {
             pool: 2 * names,
@@ -240,7 +235,7 @@ impl Reader {
         kept: usize,
         event: &Event,
         len: usize,
-    ) -> Result<(), Difference> {
+    ) -> Compared {
         self.seen.events += 1;
         let count = rows::count(event);
         let (kept, total) = (kept.min(POOL_LIMIT), self.names.len().min(POOL_LIMIT));
@@ -291,29 +286,233 @@ impl Reader {
             }
         }
         let rows = &self.rows.now[..8 * count];
-        if !says(&[document], rows, event, &mut self.seen) {
+        if !rows::say(&[document], rows, &rows::of(event), &mut self.seen) {
             return Err(format!("the event at {at}: {rows:?} and not {event:?}"));
         }
         Ok(())
     }
 }
 
-pub fn same(call: &str, answer: Answer, expected: Answer) -> Result<(), Difference> {
+pub fn same<A: PartialEq + Debug>(call: &str, answer: A, expected: A) -> Compared {
     if answer == expected {
         return Ok(());
     }
     Err(format!("{call} answered {answer:?} and not {expected:?}"))
 }
 
-/// A name that no document here has.
+/// Stands for a name whose pair ends outside. No document here has it.
 pub const OUTSIDE: &str = "\u{1}outside\u{1}";
 
-/// Whether a name or a value of the event is this.
-pub fn has(event: &Event, text: &str) -> bool {
-    let mut found = false;
-    rows::each(event, |row| {
-        found |= row.name == Some(text);
-        found |= matches!(row.value, Value::Bytes(bytes) if bytes == text.as_bytes());
+/// A pool's length and a state on the edges of what is taken, and the refusal; none where it is the end.
+pub struct Edge {
+    pub pool: usize,
+    pub at: usize,
+    pub names: usize,
+    pub refusal: Option<u32>,
+}
+
+/// Those of a document, which is `good` if it is not too long: sizes (17) before states (19). What would read an event is left out.
+pub fn edges(document: &[u8], good: bool) -> Vec<Edge> {
+    let mut edges = vec![];
+    for pool in [0, 1, 2, 131_069, 131_070, 131_071, 131_072] {
+        let bad = !good || pool % 2 == 1 || pool > 131_070;
+        for at in [0, 4, document.len(), document.len() + 1, usize::MAX] {
+            for names in [0, pool / 2, pool / 2 + 1, usize::MAX / 2 + 1, usize::MAX] {
+                let refusal = if bad {
+                    Some(17)
+                } else if at > document.len() || names > pool / 2 {
+                    Some(19)
+                } else if at == document.len() {
+                    None
+                } else {
+                    continue;
+                };
+                edges.push(Edge {
+                    pool,
+                    at,
+                    names,
+                    refusal,
+                });
+            }
+        }
+    }
+    edges
+}
+
+// ---- sections
+
+/// Documents of mostly up to `len` bytes, each read by both.
+fn read(report: &mut Report, name: &str, len: usize, documents: impl FnOnce(Visit)) {
+    report.section(name, Reader::new(len), |compare| {
+        documents(&mut |document| compare(document, &mut |reader| reader.document(document)));
     });
-    found
+}
+
+/// Events at any place of seeded documents, after names that are parts of the document itself; of some, a pair ends outside.
+fn read_anywhere(report: &mut Report, random: &mut Random, rounds: usize) {
+    report.section("slice: any place, any pairs", Reader::new(600), |compare| {
+        for i in 0..rounds {
+            let document = documents::some(random, 1 + i % 6, [0, 30][i % 2]).0;
+            let at = random.below(document.len() + 1);
+            let (names, pairs) = pool_of(&document, random);
+            compare(&document, &mut |reader| {
+                reader
+                    .place(&document, at, &names, &pairs)
+                    .map_err(|e| format!("{e}, the pairs {pairs:?}"))
+            });
+        }
+    });
+}
+
+/// Up to 5 names; now and then one whose pair ends outside.
+pub fn pool_of(document: &[u8], random: &mut Random) -> (Vec<InternedStr>, Vec<[u32; 2]>) {
+    let (mut names, mut pairs) = (vec![], vec![]);
+    let outside = random.below(10);
+    for i in 0..random.below(6) {
+        let len = document.len() as u32;
+        if i == outside {
+            let ends = [
+                [len, 1],
+                [len + 1, 0],
+                [0, len + 1],
+                [u32::MAX, 1],
+                [1, u32::MAX],
+            ];
+            names.push(OUTSIDE.into());
+            pairs.push(ends[random.below(5)]);
+            continue;
+        }
+        let start = random.below(document.len() + 1);
+        let len = random.below(document.len() + 1 - start).min(9);
+        if let Ok(name) = std::str::from_utf8(&document[start..start + len]) {
+            names.push(name.into());
+            pairs.push([start as u32, len as u32]);
+        }
+    }
+    (names, pairs)
+}
+
+/// Sizes and states that are refused, whatever the document holds.
+fn read_bad_sizes(report: &mut Report, random: &mut Random) {
+    report.section("slice: sizes and states", Reader::new(64), |compare| {
+        let mut lent = |document: &[u8], good| {
+            compare(document, &mut |reader| reader.lent(document, good));
+        };
+        for document in documents::TINY {
+            lent(document, true);
+        }
+        lent(&documents::sized(random, 16_777_216), true);
+        lent(&documents::sized(random, 16_777_217), false);
+        lent(&vec![0; 16_777_217], false);
+    });
+}
+
+pub fn slice_reader(report: &mut Report, long: bool, random: &mut Random) {
+    read(report, "slice: headers", 8, documents::headers);
+    read(report, "slice: all bodies of up to 3 bytes", 8, |visit| {
+        (0..=3).for_each(|count| documents::bodies("", count, visit));
+    });
+    if long {
+        read(
+            report,
+            "slice: 3 bytes after certain beginnings",
+            64,
+            |visit| {
+                for start in [
+                    "24",
+                    "32",
+                    "33",
+                    "32FFFF000170",
+                    "32FFFF0001702F",
+                    "32FFFF0001703F0000",
+                ] {
+                    documents::bodies(start, 3, visit);
+                }
+            },
+        );
+    }
+    read(
+        report,
+        "slice: a start tag and any token",
+        64,
+        documents::attributes,
+    );
+    let count = if long { 5 } else { 4 };
+    read(
+        report,
+        "slice: a start tag, any token and pieces",
+        64,
+        |visit| {
+            (0..=count).for_each(|count| documents::pieces_after_tokens(count, visit));
+        },
+    );
+    read(
+        report,
+        "slice: up to 3 events, damaged ones too",
+        64,
+        |visit| {
+            (1..=3).for_each(|count| documents::events(count, visit));
+        },
+    );
+    let rounds = if long { 60_000 } else { 6_000 };
+    read(
+        report,
+        "slice: seeded, some changes of each byte",
+        600,
+        |visit| {
+            for i in 0..rounds {
+                let document = documents::some(random, 1 + i % 9, [0, 20, 50][i % 3]).0;
+                visit(&document);
+                documents::damaged(&document, &[0x01, 0x10, 0x80, 0xFF], visit);
+            }
+        },
+    );
+    if long {
+        let every: Vec<u8> = (1..=255).collect();
+        read(
+            report,
+            "slice: seeded, every change of each byte",
+            600,
+            |visit| {
+                for i in 0..2_000 {
+                    let document = documents::some(random, 1 + i % 5, 0).0;
+                    documents::damaged(&document, &every, visit);
+                }
+            },
+        );
+    }
+    let rounds = if long { 2_000 } else { 60 };
+    read(report, "slice: seeded, 300 events", 60_000, |visit| {
+        for i in 0..rounds {
+            let (document, edges) = documents::some(random, 300, [0, 2_000][i % 2]);
+            visit(&document);
+            let places: Vec<usize> = (0..20).map(|_| edges[random.below(edges.len())]).collect();
+            documents::damaged_near(&document, &places, visit);
+        }
+    });
+    read(
+        report,
+        "slice: long strings",
+        70_000,
+        documents::long_strings,
+    );
+    read(
+        report,
+        "slice: names near the pool's limit",
+        800_000,
+        |visit| {
+            (65_533..=65_538).for_each(|count| documents::many_names(count, visit));
+        },
+    );
+    read(report, "slice: large documents", 16_777_216, |visit| {
+        visit(&documents::sized(random, 1_000_000));
+        visit(&documents::sized(random, 16_777_215));
+        visit(&documents::sized(random, 16_777_216));
+        visit(&documents::long_tag(
+            random,
+            if long { 16_777_000 } else { 1_000_000 },
+        ));
+    });
+    read_anywhere(report, random, if long { 2_000_000 } else { 200_000 });
+    read_bad_sizes(report, random);
 }

@@ -7,9 +7,9 @@ use harness::common::map_error;
 use crate::documents::{Random, HEADER};
 use crate::lent::{unwritten_byte, unwritten_word, Lent};
 use crate::ours::{self, refused, Answer, END, NEED_MORE};
-use crate::report::{Difference, Seen};
-use crate::rows;
-use crate::slice::{has, same, OUTSIDE};
+use crate::report::{Compared, Difference, Seen, Tested};
+use crate::rows::{self, has};
+use crate::slice::{same, OUTSIDE};
 use crate::walk::{Walk, POOL_LIMIT};
 
 pub const MAX_WINDOW: usize = 1_048_576;
@@ -81,6 +81,22 @@ fn unwritten_count(i: usize) -> usize {
     unwritten_word(i) as usize
 }
 
+impl Tested for Reader {
+    fn seen(&self) -> &Seen {
+        &self.seen
+    }
+
+    fn renew(&mut self) {
+        self.state.renew();
+        self.window.renew();
+        self.pool.renew();
+        self.store.renew();
+        self.rows.renew();
+        self.names.clear();
+        self.outside = false;
+    }
+}
+
 impl Reader {
     /// With a window of so many bytes, and tables for documents of up to `len` bytes.
     pub fn new(window: usize, len: usize) -> Reader {
@@ -109,17 +125,6 @@ impl Reader {
     pub fn grow(&mut self) {
         self.pool.grow(MAX_TABLE + 2);
         self.store.grow(MAX_STORE + 1);
-    }
-
-    /// All as it should be again, after a difference.
-    pub fn renew(&mut self) {
-        self.state = Lent::new(8, unwritten_count);
-        self.window = Lent::new(self.window.len(), unwritten_byte);
-        self.pool = Lent::new(self.pool.len(), unwritten_word);
-        self.store = Lent::new(self.store.len(), unwritten_byte);
-        self.rows = Lent::new(self.rows.len(), unwritten_word);
-        self.names.clear();
-        self.outside = false;
     }
 
     pub fn stream(&self) -> State {
@@ -162,7 +167,7 @@ impl Reader {
     // ---- the calls
 
     /// A reader anew. The window holds what it held, the tables are unwritten.
-    pub fn create(&mut self) -> Result<(), Difference> {
+    pub fn create(&mut self) -> Compared {
         self.pool.clear(2 * self.names.len());
         self.store.clear(self.stream().bytes.min(self.store.len()));
         self.names.clear();
@@ -170,13 +175,13 @@ impl Reader {
         self.create_with(self.lend)
     }
 
-    pub fn create_with(&mut self, lend: Lend) -> Result<(), Difference> {
+    pub fn create_with(&mut self, lend: Lend) -> Compared {
         // whatever the state's words say, a creation does not look at them
         let words = self.state.now.clone();
         self.state.put(0, &FRESH.words());
         let expected = self.fault(lend);
         self.state.put(0, &words);
-        let answer = ours::stream_create(
+        let answer = ours::abx_stream_create(
             &mut self.state.now[..lend.state],
             &self.window.now[..lend.window],
             &self.pool.now[..lend.pool],
@@ -196,7 +201,7 @@ impl Reader {
             None if s.finished => refused(18, 0),
             None => [0, chunk.len().min(lend.window - (s.end - s.start)), 0, 0],
         };
-        let answer = ours::stream_feed(
+        let answer = ours::abx_stream_feed(
             &mut self.state.now[..lend.state],
             &mut self.window.now[..lend.window],
             &self.pool.now[..lend.pool],
@@ -225,7 +230,7 @@ impl Reader {
             None if s.finished => refused(18, 0),
             None => [0; 4],
         };
-        let answer = ours::stream_finish(
+        let answer = ours::abx_stream_finish(
             &mut self.state.now[..lend.state],
             &self.window.now[..lend.window],
             &self.pool.now[..lend.pool],
@@ -247,7 +252,7 @@ impl Reader {
             _ => 0,
         };
         self.rows.clear(rows + 8);
-        let answer = ours::stream_next(
+        let answer = ours::abx_stream_next(
             &mut self.state.now[..lend.state],
             &self.window.now[..lend.window],
             &mut self.pool.now[..lend.pool],
@@ -263,7 +268,8 @@ impl Reader {
             self.walk(before, after, *len)?;
             self.seen.events += 1;
             let stores = [&self.window.now[..], &self.store.now[..]];
-            if !rows::says(&stores, &self.rows.now[..rows], event, &mut self.seen) {
+            let words = &self.rows.now[..rows];
+            if !rows::say(&stores, words, &rows::of(event), &mut self.seen) {
                 return Err(format!("the event after {before:?} is not {event:?}"));
             }
         }
@@ -343,7 +349,7 @@ impl Reader {
     }
 
     /// Notes the words that an event should leave.
-    fn walk(&mut self, before: State, after: State, len: usize) -> Result<(), Difference> {
+    fn walk(&mut self, before: State, after: State, len: usize) -> Compared {
         let mut walk = Walk {
             document: &self.window.now[..before.end],
             at: after.start - len,
@@ -369,11 +375,9 @@ impl Reader {
         expected: Answer,
         state: Option<State>,
         rows: usize,
-    ) -> Result<(), Difference> {
+    ) -> Compared {
         self.seen.calls += 1;
-        if expected[0] == 2 {
-            self.seen.refusals[expected[1]] += 1;
-        }
+        self.seen.refusal(expected);
         let before = self.stream();
         same(call, answer, expected).map_err(|e| format!("{e} after {before:?}"))?;
         if let Some(state) = state {
@@ -398,7 +402,7 @@ impl Reader {
     }
 
     /// Whether all words and bytes are as they should be, also those far from what a call may write.
-    pub fn whole_tables(&self) -> Result<(), Difference> {
+    pub fn whole_tables(&self) -> Compared {
         let all = self.window.holds_all()
             && self.pool.holds_all()
             && self.store.holds_all()
@@ -452,7 +456,7 @@ impl Reader {
 
     /// A call with sizes or a state that no reader takes, with other flags that are true, or one that comes too late. It takes
     /// no byte of a document and hands out no event.
-    pub fn trouble(&mut self, random: &mut Random) -> Result<(), Difference> {
+    pub fn trouble(&mut self, random: &mut Random) -> Compared {
         let mut lend = self.lend;
         let words = self.stream().words();
         let mut damaged = false;

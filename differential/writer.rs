@@ -1,17 +1,25 @@
 //! A list of events, written by our writer and by the Rust's `events_to_abx`.
 
-use android_abx::{events_to_abx, Event};
-use harness::common::map_error;
+use android_abx::{events_to_abx, AbxParser, Event};
+use harness::common::{map_error, Val};
 
-use crate::documents::HEADER;
+use crate::documents::{self, Random, Visit, HEADER};
 use crate::lent::{unwritten_byte, unwritten_word, Lent};
-use crate::ours::{self, refused, Answer, List};
-use crate::report::{Difference, Seen};
-use crate::rows::{self, Value};
+use crate::ours::{self, refused, Answer};
+use crate::report::{Compared, Difference, Report, Seen, Tested};
+use crate::rows;
 use crate::slice::same;
 use crate::walk::{Walk, POOL_LIMIT};
 
-/// A list as our writer takes it: words that form rows, and the two stores of their spans.
+/// A list as our writer takes it: rows, and the two stores of their spans.
+#[derive(Clone, Copy)]
+struct List<'a> {
+    first: &'a [u8],
+    second: &'a [u8],
+    rows: &'a [u32],
+}
+
+/// What a list of events is made from.
 #[derive(Default)]
 struct Stored {
     stores: [Vec<u8>; 2],
@@ -24,22 +32,22 @@ impl Stored {
     fn new(events: &[Event]) -> Stored {
         let mut stored = Stored::default();
         for event in events {
-            rows::each(event, |row| {
+            for row in rows::of(event) {
                 let name = match row.name {
                     None => [0, 0, 0],
-                    Some(name) => stored.span(name.as_bytes()),
+                    Some(name) => stored.span(&name),
                 };
-                let value = match row.value {
-                    Value::None => [0, 0, 0],
-                    Value::Bytes(bytes) => stored.span(bytes),
-                    Value::Word(word) => [0, 0, word],
-                    Value::Pair(pair) => [0, (pair >> 32) as u32, pair as u32],
+                let value = match row.val {
+                    Val::None => [0, 0, 0],
+                    Val::Bytes(bytes) => stored.span(&bytes),
+                    Val::B32(word) => [0, 0, word],
+                    Val::B64(pair) => [0, (pair >> 32) as u32, pair as u32],
                 };
-                stored.words.push(row.kind);
+                stored.words.push(row.kind.into());
                 stored.words.extend(name);
-                stored.words.push(row.of);
+                stored.words.push(row.ty.into());
                 stored.words.extend(value);
-            });
+            }
             stored.ends.push(stored.words.len());
         }
         stored
@@ -92,7 +100,18 @@ pub struct Writer {
     /// For the walk over what the Rust wrote.
     walked: [Lent<u32>; 2],
     used: State,
-    pub seen: Seen,
+    seen: Seen,
+}
+
+impl Tested for Writer {
+    fn seen(&self) -> &Seen {
+        &self.seen
+    }
+
+    fn renew(&mut self) {
+        self.output.renew();
+        self.pool.renew();
+    }
 }
 
 impl Writer {
@@ -110,18 +129,12 @@ impl Writer {
         }
     }
 
-    /// Tables that hold what they should again, after a difference.
-    pub fn renew(&mut self) {
-        self.output = Lent::new(self.output.len(), unwritten_byte);
-        self.pool = Lent::new(self.pool.len(), unwritten_word);
-    }
-
     /// Compares all that the two make of a list of events.
-    pub fn list(&mut self, events: &[Event], calls: Calls) -> Result<(), Difference> {
+    pub fn list(&mut self, events: &[Event], calls: Calls) -> Compared {
         self.seen.documents += 1;
         self.seen.events += events.len() as u64;
         for event in events {
-            rows::each(event, |row| self.seen.row(row.kind, row.of));
+            rows::of(event).iter().for_each(|row| self.seen.row(row));
         }
         let stored = Stored::new(events);
         let all = stored.part(0, events.len());
@@ -165,7 +178,7 @@ impl Writer {
     }
 
     /// What the Rust does not know: words that form no rows, strings that break RFC 3629, pairs that end outside.
-    fn wrong_rows(&mut self, stored: &Stored) -> Result<(), Difference> {
+    fn wrong_rows(&mut self, stored: &Stored) -> Compared {
         let state = self.create()?;
         let words = &stored.words;
         let not_rows = refused(16, 0);
@@ -248,11 +261,11 @@ impl Writer {
     fn create(&mut self) -> Result<State, Difference> {
         self.output.clear(self.used.written);
         self.pool.clear(2 * self.used.names);
-        let short = ours::writer_create(&mut self.output.now[..3], &self.pool.now);
+        let short = ours::abx_writer_create(&mut self.output.now[..3], &self.pool.now);
         same("create", short, refused(15, 0))?;
-        self.seen.refusals[15] += 1;
+        self.seen.refusal(short);
         self.output.expect(0, &HEADER);
-        let created = ours::writer_create(&mut self.output.now, &self.pool.now);
+        let created = ours::abx_writer_create(&mut self.output.now, &self.pool.now);
         same("create", created, [0, 4, 0, 0])?;
         self.used = State {
             written: 4,
@@ -261,7 +274,7 @@ impl Writer {
         Ok(self.used)
     }
 
-    fn refuses(&mut self, state: State, list: List, answer: Answer) -> Result<(), Difference> {
+    fn refuses(&mut self, state: State, list: List, answer: Answer) -> Compared {
         self.call_all(false, state, list, answer)?;
         self.whole_tables()
     }
@@ -275,7 +288,7 @@ impl Writer {
         to: State,
         list: List,
         bytes: &[u8],
-    ) -> Result<(), Difference> {
+    ) -> Compared {
         self.output
             .expect(from.written, &bytes[from.written..to.written]);
         for i in 2 * from.names..2 * to.names {
@@ -290,13 +303,7 @@ impl Writer {
         self.call(single, from, list, room, [0, to.written, to.names, 0])
     }
 
-    fn call_all(
-        &mut self,
-        single: bool,
-        state: State,
-        list: List,
-        expected: Answer,
-    ) -> Result<(), Difference> {
+    fn call_all(&mut self, single: bool, state: State, list: List, expected: Answer) -> Compared {
         let room = [self.output.len(), self.pool.len()];
         self.call(single, state, list, room, expected)
     }
@@ -308,17 +315,15 @@ impl Writer {
         list: List,
         room: [usize; 2],
         expected: Answer,
-    ) -> Result<(), Difference> {
+    ) -> Compared {
         self.seen.calls += 1;
-        if expected[0] == 2 {
-            self.seen.refusals[expected[1]] += 1;
-        }
+        self.seen.refusal(expected);
         let output = &mut self.output.now[..room[0]];
         let pool = &mut self.pool.now[..room[1]];
         let write = if single {
-            ours::write_event
+            ours::abx_write_event
         } else {
-            ours::write_events
+            ours::abx_write_events
         };
         let List {
             first,
@@ -348,10 +353,89 @@ impl Writer {
         Ok(())
     }
 
-    fn whole_tables(&self) -> Result<(), Difference> {
+    fn whole_tables(&self) -> Compared {
         if self.output.holds_all() && self.pool.holds_all() {
             return Ok(());
         }
         Err("a byte or word far from those that a call may write has changed".into())
     }
+}
+
+// ---- sections
+
+/// Lists of events, each written by both. The lists are what the Rust reads of documents.
+fn write(report: &mut Report, name: &str, len: usize, calls: Calls, documents: impl FnOnce(Visit)) {
+    report.section(name, Writer::new(len), |compare| {
+        documents(&mut |document| {
+            compare(document, &mut |writer| {
+                writer.list(&events_of(document), calls)
+            });
+        });
+    });
+}
+
+/// The events up to the end or the first refusal.
+fn events_of(document: &[u8]) -> Vec<Event> {
+    let mut events = vec![];
+    if let Ok(mut parser) = AbxParser::new(document) {
+        while let Ok(Some(event)) = parser.next_event() {
+            events.push(event);
+        }
+    }
+    events
+}
+
+pub fn writer(report: &mut Report, long: bool, random: &mut Random) {
+    write(report, "writer: up to 3 events", 64, Calls::Each, |visit| {
+        (0..=3).for_each(|count| documents::events(count, visit));
+    });
+    let rounds = if long { 600_000 } else { 60_000 };
+    write(report, "writer: seeded", 600, Calls::Each, |visit| {
+        for i in 0..rounds {
+            visit(&documents::some(random, 1 + i % 12, 0).0);
+        }
+    });
+    let rounds = if long { 2_000 } else { 100 };
+    write(
+        report,
+        "writer: seeded, 300 events",
+        60_000,
+        Calls::Each,
+        |visit| {
+            (0..rounds).for_each(|_| visit(&documents::some(random, 300, 0).0));
+        },
+    );
+    // the search for a name is linear, so long lists of names are few
+    let size = if long { 1_000_000 } else { 200_000 };
+    write(report, "writer: long lists", size, Calls::Lists, |visit| {
+        visit(&documents::sized(random, size));
+        visit(&documents::long_tag(random, size));
+    });
+    let name = "writer: names near the pool's limit";
+    write(report, name, 800_000, Calls::Whole, |visit| match long {
+        true => (65_534..=65_537).for_each(|count| documents::many_names(count, visit)),
+        false => visit(&documents::names_and(
+            65_537,
+            false,
+            documents::PAST_THE_LIMIT,
+        )),
+    });
+    long_values(report);
+}
+
+/// Strings and blobs of 65,534 to 65,537 bytes in every place.
+fn long_values(report: &mut Report) {
+    let name = "writer: long strings and blobs";
+    report.section(name, Writer::new(600_000), |compare| {
+        for len in [65_534, 65_535, 65_536, 65_537, 200_000] {
+            for events in documents::lists_with(&"x".repeat(len)) {
+                let shown = format!("{events:?}").into_bytes();
+                compare(&shown, &mut |writer| {
+                    writer
+                        .list(&events, Calls::Each)
+                        .map_err(|e| format!("{len} bytes: {e}"))
+                });
+            }
+        }
+    });
 }

@@ -1,4 +1,4 @@
-//! Links libabx.a, which the command `rt staticlib abx` makes.
+//! Says where libabx.a is, which the command `rt staticlib abx` makes.
 
 use std::path::PathBuf;
 use std::{env, process};
@@ -19,7 +19,6 @@ fn main() {
     }
     println!("cargo:rerun-if-changed={}", library.display());
     println!("cargo:rustc-link-search=native={}", dir.display());
-    println!("cargo:rustc-link-lib=static=abx");
     // For the test that compiles the C example.
     println!("cargo:rustc-env=ABX_LIBRARY={}", library.display());
 }

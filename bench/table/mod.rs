@@ -1,4 +1,5 @@
 //! What the tables beside the Rust share: the documents, the turns and the lines.
+#![allow(dead_code)] // a benchmark uses some of it
 
 use std::hint::black_box;
 use std::time::Instant;
@@ -65,21 +66,31 @@ pub fn each(names: &[&str], mut measure: impl FnMut(&str, &[u8])) {
     }
 }
 
-fn milliseconds(work: impl FnOnce() -> Size) -> f64 {
-    let begin = Instant::now();
-    black_box(work());
-    begin.elapsed().as_secs_f64() * 1e3
+extern "C" {
+    fn clock_gettime(clock: i32, time: *mut [i64; 2]) -> i32;
 }
 
-/// A line of the table. The two must have the same size. They take turns, so that noise hits both, and the best turn of each counts.
-pub fn line(
-    name: &str,
+/// The thread's own time so far, in milliseconds: other work on the machine counts less in it.
+fn time_taken() -> f64 {
+    const THREAD: i32 = 3; // CLOCK_THREAD_CPUTIME_ID of Linux
+    let mut time = [0; 2];
+    // SAFETY: on 64 bits a timespec is two words, which are there to be written.
+    assert_eq!(unsafe { clock_gettime(THREAD, &mut time) }, 0);
+    time[0] as f64 * 1e3 + time[1] as f64 / 1e6
+}
+
+fn milliseconds<T>(work: impl FnOnce() -> T) -> f64 {
+    let begin = time_taken();
+    black_box(work());
+    time_taken() - begin
+}
+
+/// The milliseconds of each. The two take turns, so that noise hits both, and the best turn of each counts.
+pub fn best<T, U>(
     turns: usize,
-    mut ours: impl FnMut() -> Size,
-    mut rust: impl FnMut() -> Size,
-) {
-    let size = rust();
-    assert_eq!(ours(), size, "{name}");
+    mut ours: impl FnMut() -> T,
+    mut rust: impl FnMut() -> U,
+) -> [f64; 2] {
     let mut best = [f64::MAX; 2];
     let begin = Instant::now();
     let mut turn = 0;
@@ -89,7 +100,19 @@ pub fn line(
         best[0] = best[0].min(milliseconds(&mut ours));
         best[1] = best[1].min(milliseconds(&mut rust));
     }
-    let [ours, rust] = best;
+    best
+}
+
+/// A line of the table. The two must have the same size.
+pub fn line(
+    name: &str,
+    turns: usize,
+    mut ours: impl FnMut() -> Size,
+    mut rust: impl FnMut() -> Size,
+) {
+    let size = rust();
+    assert_eq!(ours(), size, "{name}");
+    let [ours, rust] = best(turns, ours, rust);
     println!(
         "| {name} | {} | {} | {} | {ours:.1} | {rust:.1} | {:.0} | {:.0} | {:.2} |",
         size.bytes,

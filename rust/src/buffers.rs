@@ -1,6 +1,6 @@
 //! The buffers that a reader lends, and how long the library takes them.
 
-use crate::AbxError;
+use crate::{AbxError, Result};
 
 /// The longest document of an [`AbxParser`](crate::AbxParser), in bytes.
 pub const MAX_DOCUMENT: usize = 16_777_216;
@@ -43,14 +43,27 @@ impl Buffers {
         }
     }
 
-    /// Makes the buffer longer that a refusal says is too short. False where it is another refusal, or the buffer has its full
-    /// length: then the refusal stands. A refused call changes nothing, so the same call is made again after this.
-    pub(crate) fn grow_for(&mut self, refusal: &AbxError) -> bool {
-        match refusal {
+    /// The first rows, those that a call has written.
+    pub(crate) fn first_rows(&self, count: usize) -> &[u32] {
+        self.rows.get(..ROW * count).unwrap_or(&[])
+    }
+
+    /// Makes the buffer longer that a refusal says is too short. A refused call changes nothing, so the same call is made again after this.
+    ///
+    /// # Errors
+    ///
+    /// The refusal, where it is another one, or the buffer has its full length.
+    pub(crate) fn grow_for(&mut self, refusal: AbxError) -> Result<()> {
+        let grown = match refusal {
             AbxError::RowsFull => grow(&mut self.rows, ROW * MAX_ROWS),
             AbxError::PoolFull => grow(&mut self.pool, 2 * MAX_NAMES),
             AbxError::NamesFull => grow(&mut self.store, MAX_STORE),
             _ => false,
+        };
+        if grown {
+            Ok(())
+        } else {
+            Err(refusal)
         }
     }
 }

@@ -21,10 +21,11 @@
 #![deny(unsafe_code)]
 
 mod buffers;
+mod checked;
 mod error;
 mod event;
 #[allow(unsafe_code)]
-mod ffi;
+mod library;
 mod rows;
 mod slice;
 mod stream;
@@ -47,5 +48,5 @@ pub const MAGIC: [u8; 4] = *b"ABX\0";
 
 /// Whether these bytes are well-formed UTF-8 by RFC 3629, as the library checks it.
 pub fn is_utf8(bytes: &[u8]) -> bool {
-    ffi::is_utf8(bytes)
+    library::abx_is_utf8(bytes)
 }

@@ -1,7 +1,9 @@
 //! The reader of a document in memory.
 
-use crate::buffers::{Buffers, ROW};
-use crate::ffi::{self, Place};
+use std::iter;
+
+use crate::buffers::Buffers;
+use crate::checked::{self, Place};
 use crate::rows::{self, Stores};
 #[cfg(feature = "queries")]
 use crate::{AbxError, Attribute, AttributeValue};
@@ -40,7 +42,7 @@ impl<'a> AbxParser<'a> {
         let buffers = Buffers::new(0);
         Ok(AbxParser {
             document,
-            place: ffi::slice_create(document, &buffers.pool)?,
+            place: checked::slice_create(document, &buffers.pool)?,
             events: 0,
             buffers,
             failed: false,
@@ -55,19 +57,15 @@ impl<'a> AbxParser<'a> {
     pub fn next_event(&mut self) -> Result<Option<Event>> {
         loop {
             let Buffers { pool, rows, .. } = &mut self.buffers;
-            match ffi::slice_next(self.place, self.document, pool, rows) {
+            match checked::slice_next(self.place, self.document, pool, rows) {
                 Ok(None) => return Ok(None),
                 Ok(Some((count, place))) => {
-                    let event = rows::event(self.stores(), self.rows(count))?;
+                    let event = rows::event(self.stores(), self.buffers.first_rows(count))?;
                     self.place = place;
                     self.events += 1;
                     return Ok(Some(event));
                 }
-                Err(refusal) => {
-                    if !self.buffers.grow_for(&refusal) {
-                        return Err(refusal);
-                    }
-                }
+                Err(refusal) => self.buffers.grow_for(refusal)?,
             }
         }
     }
@@ -78,11 +76,7 @@ impl<'a> AbxParser<'a> {
     ///
     /// The first error. The events before it were consumed.
     pub fn collect_events(&mut self) -> Result<Vec<Event>> {
-        let mut events = vec![];
-        while let Some(event) = self.next_event()? {
-            events.push(event);
-        }
-        Ok(events)
+        iter::from_fn(|| self.next_event().transpose()).collect()
     }
 
     /// Whether all of the document was read.
@@ -106,10 +100,6 @@ impl<'a> AbxParser<'a> {
             second: &[],
         }
     }
-
-    fn rows(&self, count: usize) -> &[u32] {
-        self.buffers.rows.get(..ROW * count).unwrap_or(&[])
-    }
 }
 
 /// Queries. Each goes on from where the reader stands, and consumes the events that it looks at ([`events_read`](Self::events_read)).
@@ -123,7 +113,7 @@ impl AbxParser<'_> {
     /// What is wrong with an event before. The reader stays before that event.
     pub fn find_attribute(&mut self, element: &str, attr: &str) -> Result<Option<AttributeValue>> {
         let mut found = vec![];
-        let query = ffi::Query::FindAttribute(element.as_bytes(), attr.as_bytes());
+        let query = checked::Query::FindAttribute(element.as_bytes(), attr.as_bytes());
         self.ask(query, &mut found, rows::values)?;
         Ok(found.pop())
     }
@@ -135,7 +125,7 @@ impl AbxParser<'_> {
     /// What is wrong with an event before. The reader stays before that event.
     pub fn attributes_of(&mut self, element: &str) -> Result<Option<Vec<Attribute>>> {
         let mut found = vec![];
-        let query = ffi::Query::AttributesOf(element.as_bytes());
+        let query = checked::Query::AttributesOf(element.as_bytes());
         self.ask(query, &mut found, rows::tags)?;
         Ok(found.pop())
     }
@@ -166,7 +156,7 @@ impl AbxParser<'_> {
         attr: &str,
         found: &mut Vec<AttributeValue>,
     ) -> Result<()> {
-        let query = ffi::Query::FindAllAttributes(element.as_bytes(), attr.as_bytes());
+        let query = checked::Query::FindAllAttributes(element.as_bytes(), attr.as_bytes());
         self.ask(query, found, rows::values)
     }
 
@@ -191,32 +181,28 @@ impl AbxParser<'_> {
         element: &str,
         found: &mut Vec<Vec<Attribute>>,
     ) -> Result<()> {
-        let query = ffi::Query::AllAttributesOf(element.as_bytes());
+        let query = checked::Query::AllAttributesOf(element.as_bytes());
         self.ask(query, found, rows::tags)
     }
 
     // A refused query keeps its rows and its place, so it goes on from there when a buffer was too short.
     fn ask<T>(
         &mut self,
-        query: ffi::Query,
+        query: checked::Query,
         found: &mut Vec<T>,
         read: fn(Stores, &[u32], &mut Vec<T>) -> Result<()>,
     ) -> Result<()> {
         loop {
             let Buffers { pool, rows, .. } = &mut self.buffers;
-            let reached = ffi::query(query, self.place, self.document, pool, rows)?;
-            read(self.stores(), self.rows(reached.rows), found)?;
+            let reached = checked::query(query, self.place, self.document, pool, rows)?;
+            read(self.stores(), self.buffers.first_rows(reached.rows), found)?;
             self.place = reached.place;
             self.events += reached.events;
             match reached.ended {
                 Ok(_) => return Ok(()),
                 // The rows are free again.
                 Err(AbxError::RowsFull) if reached.rows > 0 => {}
-                Err(refusal) => {
-                    if !self.buffers.grow_for(&refusal) {
-                        return Err(refusal);
-                    }
-                }
+                Err(refusal) => self.buffers.grow_for(refusal)?,
             }
         }
     }
@@ -226,11 +212,20 @@ impl Iterator for AbxParser<'_> {
     type Item = Result<Event>;
 
     fn next(&mut self) -> Option<Result<Event>> {
-        if self.failed {
-            return None;
-        }
-        let next = self.next_event();
-        self.failed = next.is_err();
-        next.transpose()
+        until_error(self, |reader| &mut reader.failed, AbxParser::next_event)
     }
+}
+
+/// What a reader gives as an iterator: its next event, and nothing after an error.
+pub(crate) fn until_error<R>(
+    reader: &mut R,
+    failed: fn(&mut R) -> &mut bool,
+    next_event: fn(&mut R) -> Result<Option<Event>>,
+) -> Option<Result<Event>> {
+    if *failed(reader) {
+        return None;
+    }
+    let next = next_event(reader);
+    *failed(reader) = next.is_err();
+    next.transpose()
 }

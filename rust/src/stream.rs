@@ -1,10 +1,12 @@
 //! The reader of a document that comes in chunks.
 
 use std::io::{self, Read};
+use std::iter;
 
-use crate::buffers::{Buffers, MAX_WINDOW, ROW};
-use crate::ffi::{self, State, Stepped};
+use crate::buffers::{Buffers, MAX_WINDOW};
+use crate::checked::{self, State, Stepped};
 use crate::rows::{self, Stores};
+use crate::slice::until_error;
 use crate::{AbxError, Event, Result};
 
 /// What a chunk reader answers.
@@ -52,8 +54,8 @@ impl AbxStreamParser {
         AbxStreamParser::with_window(MAX_WINDOW)
     }
 
-    /// A reader with a window of so many bytes. It takes events that are shorter than the window; a longer one is refused
-    /// `WindowFull`.
+    /// A reader with a window of so many bytes. It takes events that fit the window, a start tag together with the token after it;
+    /// a longer one is refused `WindowFull`.
     ///
     /// # Errors
     ///
@@ -63,7 +65,7 @@ impl AbxStreamParser {
         let window = vec![0; len.min(MAX_WINDOW + 1)];
         let buffers = Buffers::new(1024);
         Ok(AbxStreamParser {
-            state: ffi::stream_create(&window, &buffers.pool, &buffers.store)?,
+            state: checked::stream_create(&window, &buffers.pool, &buffers.store)?,
             window,
             buffers,
         })
@@ -76,7 +78,7 @@ impl AbxStreamParser {
     /// `AlreadyFinished` after a finish.
     pub fn feed(&mut self, chunk: &[u8]) -> Result<usize> {
         let Buffers { pool, store, .. } = &self.buffers;
-        ffi::stream_feed(&mut self.state, &mut self.window, pool, store, chunk)
+        checked::stream_feed(&mut self.state, &mut self.window, pool, store, chunk)
     }
 
     /// Says that no more bytes will come.
@@ -86,7 +88,7 @@ impl AbxStreamParser {
     /// `AlreadyFinished` after a finish.
     pub fn finish(&mut self) -> Result<()> {
         let Buffers { pool, store, .. } = &self.buffers;
-        ffi::stream_finish(&mut self.state, &self.window, pool, store)
+        checked::stream_finish(&mut self.state, &self.window, pool, store)
     }
 
     /// The next event, or why there is none.
@@ -97,22 +99,18 @@ impl AbxStreamParser {
     pub fn next_event(&mut self) -> Result<Next> {
         loop {
             let Buffers { pool, rows, store } = &mut self.buffers;
-            match ffi::stream_next(&mut self.state, &self.window, pool, store, rows) {
+            match checked::stream_next(&mut self.state, &self.window, pool, store, rows) {
                 Ok(Stepped::Event(count)) => {
                     let stores = Stores {
                         first: &self.window,
-                        second: store,
+                        second: &self.buffers.store,
                     };
-                    let words = rows.get(..ROW * count).unwrap_or(&[]);
-                    return Ok(Next::Event(rows::event(stores, words)?));
+                    let event = rows::event(stores, self.buffers.first_rows(count))?;
+                    return Ok(Next::Event(event));
                 }
                 Ok(Stepped::NeedMore) => return Ok(Next::NeedMore),
                 Ok(Stepped::End) => return Ok(Next::End),
-                Err(refusal) => {
-                    if !self.buffers.grow_for(&refusal) {
-                        return Err(refusal);
-                    }
-                }
+                Err(refusal) => self.buffers.grow_for(refusal)?,
             }
         }
     }
@@ -197,11 +195,7 @@ impl<R: Read> AbxReader<R> {
     ///
     /// The first error. The events before it were consumed.
     pub fn collect_events(&mut self) -> Result<Vec<Event>> {
-        let mut events = vec![];
-        while let Some(event) = self.next_event()? {
-            events.push(event);
-        }
-        Ok(events)
+        iter::from_fn(|| self.next_event().transpose()).collect()
     }
 
     /// The source. Bytes that were read and are not part of an event yet are lost.
@@ -242,11 +236,6 @@ impl<R: Read> Iterator for AbxReader<R> {
     type Item = Result<Event>;
 
     fn next(&mut self) -> Option<Result<Event>> {
-        if self.failed {
-            return None;
-        }
-        let next = self.next_event();
-        self.failed = next.is_err();
-        next.transpose()
+        until_error(self, |reader| &mut reader.failed, AbxReader::next_event)
     }
 }

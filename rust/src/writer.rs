@@ -1,7 +1,7 @@
 //! The writer.
 
 use crate::buffers::{at_least, MAX_NAMES, MAX_OUTPUT};
-use crate::ffi::{self, Written};
+use crate::checked::{self, Written};
 use crate::rows::List;
 use crate::{Event, Result};
 
@@ -44,7 +44,7 @@ impl AbxWriter {
     pub fn new() -> Result<AbxWriter> {
         let mut output = vec![0; 1024];
         let pool = vec![0; 2 * 64];
-        let written = ffi::writer_create(&mut output, &pool)?;
+        let written = checked::writer_create(&mut output, &pool)?;
         Ok(AbxWriter {
             written,
             output,
@@ -104,7 +104,8 @@ impl AbxWriter {
     fn write(&mut self, single: bool, list: &List) -> Result<()> {
         self.make_room(list);
         let (output, pool) = (&mut self.output, &mut self.pool);
-        self.written = ffi::write(single, self.written, &list.store, &list.words, output, pool)?;
+        self.written =
+            checked::write(single, self.written, &list.store, &list.words, output, pool)?;
         Ok(())
     }
 

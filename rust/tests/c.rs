@@ -1,7 +1,8 @@
-//! The C header and the C example, where there is a C compiler.
+//! The C header, and the C example where there is a C compiler.
 
 mod common;
 
+use std::fs;
 use std::io::Write;
 use std::path::Path;
 use std::process::{Command, Stdio};
@@ -19,6 +20,51 @@ fn names(program: &Path, document: &[u8]) -> (String, bool) {
     let output = child.wait_with_output().unwrap();
     let text = String::from_utf8(output.stdout).unwrap();
     (text, output.status.success())
+}
+
+/// A line of `src/library.rs` as C: a slice is a pointer and a length, and the answer comes last.
+fn in_c(line: &str) -> String {
+    let (name, rest) = line.split_once('(').unwrap();
+    let (numbers, slices) = rest.trim_end_matches(");").split_once(';').unwrap();
+    let mut all = vec![];
+    for number in numbers.split(", ").filter(|number| !number.is_empty()) {
+        all.push(format!("size_t {number}"));
+    }
+    for slice in slices.split(',').chain(["answer: &mut [usize]"]) {
+        let (name, kind) = slice.trim().split_once(": ").unwrap();
+        let of = match kind {
+            "&[u8]" => "const uint8_t",
+            "&mut [u8]" => "uint8_t",
+            "&[u32]" => "const uint32_t",
+            "&mut [u32]" => "uint32_t",
+            "&mut [usize]" => "size_t",
+            _ => panic!("{slice}"),
+        };
+        all.push(format!("{of} *{name}, size_t {name}_len"));
+    }
+    format!("void {name}({});", all.join(", "))
+}
+
+#[test]
+fn the_header_declares_what_rust_calls() {
+    let crate_folder = Path::new(env!("CARGO_MANIFEST_DIR"));
+    let read = |file| fs::read_to_string(crate_folder.join(file)).unwrap();
+    let header = read("include/abx.h");
+    let header = header.split_whitespace().collect::<Vec<_>>().join(" ");
+    let library = read("src/library.rs");
+    let lines = library.lines().filter_map(|line| {
+        let line = line.strip_prefix("    fn ")?;
+        (line.starts_with("abx_") && line.contains(';')).then_some(line)
+    });
+    let mut count = 0;
+    for line in lines {
+        let declared = in_c(line);
+        assert!(header.contains(&declared), "{declared}");
+        count += 1;
+    }
+    assert_eq!(count, 13);
+    assert_eq!(header.matches("void abx_").count(), count);
+    assert!(header.contains("bool abx_is_utf8(const uint8_t *s, size_t s_len);"));
 }
 
 #[test]

@@ -162,7 +162,7 @@ fn long_documents_are_refused() {
 
 #[test]
 fn an_event_has_as_many_rows_as_fit_a_document() {
-    // Attributes of three bytes each: the rows grow to their limit.
+    // Attributes of three bytes each, the least that one takes.
     let mut document = document("32 FFFF 0001 70");
     let attribute = bytes("1F 0000");
     while document.len() + 3 <= 1 << 20 {

@@ -31,7 +31,7 @@ fn windows_have_limits() {
 }
 
 #[test]
-fn an_event_that_fills_the_window_is_refused() {
+fn an_event_longer_than_the_window_is_refused() {
     for size in 1..=64 {
         // A text is complete at its last byte, so it may fill the window.
         for len in [0, 60, 61] {
@@ -103,7 +103,7 @@ fn empty_chunks_change_nothing() {
     assert!(matches!(parser.next_event(), Err(AbxError::HeaderShort)));
 }
 
-/// End tags of new names, then the last name's index.
+/// A document of end tags of so many new names.
 fn names(count: usize, name: impl Fn(usize) -> Vec<u8>) -> Vec<u8> {
     let mut document = document("");
     for i in 0..count {

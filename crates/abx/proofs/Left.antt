@@ -1,64 +1,82 @@
 -- What a call leaves, as words.
-use mathlib.Core.Bool.{Bool, true, false, cond}
-use mathlib.Core.List.{List}
+use mathlib.Core.List.{List, []}
 use mathlib.Core.Path.{_≡_, refl, sym, ap, _∙_}
-use Prim.Native.Nat.{ℕ, _≤_, _<_}
-use lib.ListN.{length}
-use borrow.Author.Tests.{le-ltb, lt-ltb}
-use mir.Val.{boolByte}
-use Rattle.wire.specs.Refusal.{badState}
+use Prim.Native.Nat.{ℕ}
 use Rattle.slice_spec.specs.Slice as Slice
 use Rattle.stream_spec.specs.Stream as Chunks
 use Rattle.writer_spec.specs.Writer as Writer
-use Rattle.abx.specs.Words.{answered, chunkWords, kept, nextWords, NextLeft, opened, openState, openWords, OpenLeft, replyWords, StreamLeft, WriteLeft}
+use Rattle.slice.specs.declared.Place as Coded
+use Rattle.slice.specs.declared.Next.{Next}
+use Rattle.slice.specs.declared.Next.the-variants as Next
+use Rattle.slice.specs.Answers.{nextOf}
+use Rattle.stream.specs.declared.Stream as State
+use Rattle.stream.specs.declared.Fed.{Fed}
+use Rattle.stream.specs.declared.Fed.the-variants as Fed
+use Rattle.stream.specs.declared.Closed.{Closed}
+use Rattle.stream.specs.declared.Closed.the-variants as Closed
+use Rattle.stream.specs.declared.Answer.{Answer}
+use Rattle.stream.specs.declared.Answer.the-variants as Answer
+use Rattle.stream.specs.Answers.{fedOf, closedOf, answerOf}
+use Rattle.abx_words.specs.Words.{answered, nextWords, NextLeft, replyWords, chunkWords, kept, Told, StreamLeft, WriteLeft}
 
-pub next-left : (answer answer₁ : List ℕ) (x y : Slice.Left) → answer₁ ≡ answered answer (nextWords x) → x ≡ y → NextLeft answer answer₁ (x .table) (x .rows) y
-next-left answer answer₁ x y e f = record {
-  answer-is = e ∙ ap (λ (z : Slice.Left). answered answer (nextWords z)) f;
-  pool-is = ap (λ (z : Slice.Left). z .table) f;
-  rows-is = ap (λ (z : Slice.Left). z .rows) f;
+-- ---- the slice reader
+
+pool-of : (old : Coded.Place) (pool rows : List ℕ) (n : Next) → pool ≡ nextOf old pool rows n .table
+pool-of old pool rows (Next.Event k p) = refl
+pool-of old pool rows Next.End = refl
+pool-of old pool rows (Next.Refused r) = refl
+
+rows-of : (old : Coded.Place) (pool rows : List ℕ) (n : Next) → rows ≡ nextOf old pool rows n .rows
+rows-of old pool rows (Next.Event k p) = refl
+rows-of old pool rows Next.End = refl
+rows-of old pool rows (Next.Refused r) = refl
+
+pub next-left : (answer answer₁ pool rows : List ℕ) (old : Coded.Place) (n : Next) (y : Slice.Left)
+    → ((o : Coded.Place) (t u : List ℕ) → answer₁ ≡ answered answer (nextWords (nextOf o t u n))) → nextOf old pool rows n ≡ y
+    → NextLeft answer answer₁ pool rows y
+next-left answer answer₁ pool rows old n y e f = record {
+  answer-is = e old pool rows ∙ ap (λ (z : Slice.Left). answered answer (nextWords z)) f;
+  pool-is = pool-of old pool rows n ∙ ap (λ (z : Slice.Left). z .table) f;
+  rows-is = rows-of old pool rows n ∙ ap (λ (z : Slice.Left). z .rows) f;
 }
 
--- a flag's word
-pub flag-is : (b : Bool) → boolByte b ≡ cond b 1 0
-flag-is true = refl
-flag-is false = refl
+-- ---- the chunk reader
 
--- what a chunk reader's creation leaves
-pub open-left : (state state₁ answer answer₁ : List ℕ) (x y : Chunks.Created) → state₁ ≡ openState state x → answer₁ ≡ answered answer (openWords x)
-    → x ≡ y → OpenLeft state state₁ answer answer₁ y
-open-left state state₁ answer answer₁ x y e g f = record {
-  state-is = e ∙ ap (openState state) f;
-  answer-is = g ∙ ap (λ (z : Chunks.Created). answered answer (openWords z)) f;
-}
+-- what is lent, and the rows, whatever the answer
+abbrev pub Lends : Chunks.Lent → List ℕ → Chunks.Left → Type 0
+Lends l rows x = (x .lent ≡ l) × (x .rows ≡ rows)
 
--- a reader that was created, in a state that has no room for it, or has
-pub opened-short : (state : List ℕ) (r : Chunks.Stream) (x : Chunks.Created) → length state < 6 → Chunks.created r ≡ x
-    → Chunks.Created.refused badState 0 ≡ opened state x
-opened-short state r x short e =
-    let h : opened state (Chunks.created r) ≡ Chunks.Created.refused badState 0 = rw (lt-ltb _ _ short) in
-    sym h ∙ ap (opened state) e
+pub fed-lends : (old : State.Stream) (l : Chunks.Lent) (f : Fed) → Lends l [] (fedOf old l f)
+fed-lends old l (Fed.Took n s) = (refl, refl)
+fed-lends old l (Fed.Refused r) = (refl, refl)
 
-pub opened-room : (state : List ℕ) (r : Chunks.Stream) (x : Chunks.Created) → 6 ≤ length state → Chunks.created r ≡ x
-    → Chunks.created r ≡ opened state x
-opened-room state r x room e =
-    let h : opened state (Chunks.created r) ≡ Chunks.created r = rw (le-ltb _ _ room) in
-    sym h ∙ ap (opened state) e
+pub closed-lends : (old : State.Stream) (l : Chunks.Lent) (f : Closed) → Lends l [] (closedOf old l f)
+closed-lends old l (Closed.Stream s) = (refl, refl)
+closed-lends old l (Closed.Refused r) = (refl, refl)
 
--- what its other calls leave
-pub stream-left : (state state₁ answer answer₁ : List ℕ) (x y : Chunks.Left) → state₁ ≡ kept state (x .stream) (x .reply)
-    → answer₁ ≡ answered answer (chunkWords (x .reply)) → x ≡ y
-    → StreamLeft state state₁ answer answer₁ (x .lent .window) (x .lent .table) (x .lent .store) (x .rows) y
-stream-left state state₁ answer answer₁ x y e g f = record {
-  state-is = e ∙ ap (λ (z : Chunks.Left). kept state (z .stream) (z .reply)) f;
-  answer-is = g ∙ ap (λ (z : Chunks.Left). answered answer (chunkWords (z .reply))) f;
-  window-is = ap (λ (z : Chunks.Left). z .lent .window) f;
-  pool-is = ap (λ (z : Chunks.Left). z .lent .table) f;
-  store-is = ap (λ (z : Chunks.Left). z .lent .store) f;
-  rows-is = ap (λ (z : Chunks.Left). z .rows) f;
-}
+pub answer-lends : (old : State.Stream) (l : Chunks.Lent) (rows : List ℕ) (f : Answer) → Lends l rows (answerOf old l rows f)
+answer-lends old l rows (Answer.Event n s) = (refl, refl)
+answer-lends old l rows (Answer.NeedMore s) = (refl, refl)
+answer-lends old l rows (Answer.End s) = (refl, refl)
+answer-lends old l rows (Answer.Refused r) = (refl, refl)
 
--- what a writer's call leaves
+pub stream-left : (state state₁ answer answer₁ rows : List ℕ) (l : Chunks.Lent) (x y : Chunks.Left) → Told state state₁ answer answer₁ x
+    → Lends l rows x → x ≡ y → StreamLeft state state₁ answer answer₁ (l .window) (l .table) (l .store) rows y
+stream-left state state₁ answer answer₁ rows l x y t e f =
+    let lent : l ≡ y .lent = sym (e .0) ∙ ap (λ (z : Chunks.Left). z .lent) f in
+    record {
+      told = record {
+        state-is = t .state-is ∙ ap (λ (z : Chunks.Left). kept state (z .stream) (z .reply)) f;
+        answer-is = t .answer-is ∙ ap (λ (z : Chunks.Left). answered answer (chunkWords (z .reply))) f;
+      };
+      window-is = ap (λ (z : Chunks.Lent). z .window) lent;
+      pool-is = ap (λ (z : Chunks.Lent). z .table) lent;
+      store-is = ap (λ (z : Chunks.Lent). z .store) lent;
+      rows-is = sym (e .1) ∙ ap (λ (z : Chunks.Left). z .rows) f;
+    }
+
+-- ---- the writer
+
 pub write-left : (answer answer₁ output pool : List ℕ) (q : Writer.Reply) (y : Writer.Left) → answer₁ ≡ answered answer (replyWords q)
     → record { reply = q; lent = record { output = output; table = pool } } ≡ y → WriteLeft answer answer₁ output pool y
 write-left answer answer₁ output pool q y e f = record {

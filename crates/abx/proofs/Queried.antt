@@ -6,7 +6,7 @@ use Rattle.slice_spec.specs.Queries.{Left}
 use Rattle.slice.specs.declared.queries.Queried.{Queried}
 use Rattle.slice.specs.declared.queries.Queried.the-variants as Queried
 use Rattle.slice.specs.Answers.{leftOf}
-use Rattle.abx.specs.QueryWords.{toldTo, queryWords, QueryLeft}
+use Rattle.abx_words.specs.QueryWords.{toldTo, queryWords, QueryLeft}
 
 pool-of : (pool rows : List ℕ) (q : Queried) → pool ≡ leftOf pool rows q .progress .table
 pool-of pool rows (Queried.Found r) = refl

@@ -4,36 +4,16 @@
 // lent: start, end, names, bytes, and 0 or 1 for a header passed and for a finish. A call that is not refused leaves the new state there.
 mod queries;
 
-use slice::Created;
-use slice::Next;
 use slice::Place;
-use stream::Answer;
-use stream::Closed;
-use stream::Fed;
-use stream::Stream;
-use wire::Refusal;
 use writer::Writer;
-use writer::Written;
-ghost use mathlib.Core.List.{[], _∷_};
+ghost use mathlib.Core.List.{[]};
 ghost use mathlib.Core.Path.{_≡_};
 ghost use Rattle.utf8.specs.Utf8.{wellFormed};
 ghost use Rattle.slice_spec.specs.Slice as Slice;
-ghost use Rattle.stream.specs.Answers.{lend, streamOf};
+ghost use Rattle.stream.specs.Answers.{lend};
 ghost use Rattle.stream_spec.specs.Stream as Chunks;
 ghost use Rattle.writer_spec.specs.Writer as Spec;
-ghost use Rattle.writer.specs.Answers.{replyOf};
-ghost use Rattle.abx.specs.Words.{answered, createdWords, NextLeft, replyWords, stateWords, stored, streamIn, StreamLeft, opened, OpenLeft, WriteLeft};
-
-const DONE: usize = 0;
-
-const END: usize = 1;
-
-const REFUSED: usize = 2;
-
-const NEED_MORE: usize = 3;
-
-// The words of a chunk reader's state.
-const STATE: usize = 6;
+ghost use Rattle.abx_words.specs.Words.{answered, createdWords, NextLeft, streamIn, StreamLeft, opened, OpenLeft, WriteLeft};
 
 // Whether s is well-formed UTF-8.
 #[no_mangle]
@@ -43,26 +23,12 @@ pub extern "C" fn abx_is_utf8(s: &[u8]) -> bool
     utf8::is_utf8(s)
 }
 
-fn put(answer: &mut [usize], what: usize, a: usize, b: usize, c: usize)
-    ensures { λ _. ⌜ now (answer .exit) ≡ answered (now (answer .entry)) (what ∷ a ∷ b ∷ c ∷ []) ⌝ }
-{
-    if 4 <= answer.len() {
-        answer[0] = what;
-        answer[1] = a;
-        answer[2] = b;
-        answer[3] = c;
-    }
-}
-
 // 0, place and names; or 2, number and detail.
 #[no_mangle]
 pub extern "C" fn abx_slice_create(document: &[u8], pool: &[u32], answer: &mut [usize])
     ensures { λ _. ⌜ now (answer .exit) ≡ answered (now (answer .entry)) (createdWords (Slice.create (now (document .entry)) (now (pool .entry)))) ⌝ }
 {
-    match slice::create(document, pool) {
-        Created::Place(place) => put(answer, DONE, place.at, place.names, 0),
-        Created::Refused(r) => put(answer, REFUSED, r.number as usize, r.detail as usize, 0),
-    }
+    abx_words::tell_created(answer, slice::create(document, pool))
 }
 
 // 0, rows, place and names; or 1; or 2, number and detail.
@@ -77,51 +43,11 @@ pub extern "C" fn abx_slice_next(
 )
     ensures { λ _. ⌜ NextLeft (now (answer .entry)) (now (answer .exit)) (now (pool .exit)) (now (rows .exit)) (Slice.next (record { at = at; names = names }) (now (document .entry)) (now (pool .entry)) (now (rows .entry))) ⌝ }
 {
-    match slice::next_event(Place { at, names }, document, pool, rows) {
-        Next::Event { rows: count, place } => put(answer, DONE, count, place.at, place.names),
-        Next::End => put(answer, END, 0, 0, 0),
-        Next::Refused(r) => put(answer, REFUSED, r.number as usize, r.detail as usize, 0),
-    }
+    let place = Place { at, names };
+    abx_words::tell_next(answer, slice::next_event(place, document, pool, rows))
 }
 
 // ---- the chunk reader
-
-// The state that these words say; any flag but 0 is true. Too few words are a state that every call refuses.
-fn stream_in(state: &[usize]) -> Stream
-    ensures { λ r. ⌜ streamOf r ≡ streamIn (now (state .entry)) ⌝ }
-{
-    if state.len() < STATE {
-        return Stream {
-            start: 1,
-            end: 0,
-            names: 0,
-            bytes: 0,
-            header: false,
-            finished: false,
-        };
-    }
-    Stream {
-        start: state[0],
-        end: state[1],
-        names: state[2],
-        bytes: state[3],
-        header: state[4] != 0,
-        finished: state[5] != 0,
-    }
-}
-
-fn keep(state: &mut [usize], stream: Stream)
-    ensures { λ _. ⌜ now (state .exit) ≡ stored (now (state .entry)) (stateWords (streamOf stream)) ⌝ }
-{
-    if STATE <= state.len() {
-        state[0] = stream.start;
-        state[1] = stream.end;
-        state[2] = stream.names;
-        state[3] = stream.bytes;
-        state[4] = stream.header as usize;
-        state[5] = stream.finished as usize;
-    }
-}
 
 // 0; or 2, number and detail.
 #[no_mangle]
@@ -134,22 +60,8 @@ pub extern "C" fn abx_stream_create(
 )
     ensures { λ _. ⌜ OpenLeft (now (state .entry)) (now (state .exit)) (now (answer .entry)) (now (answer .exit)) (opened (now (state .entry)) (Chunks.create (lend (now (window .entry)) (now (pool .entry)) (now (store .entry))))) ⌝ }
 {
-    match stream::create(window, pool, store) {
-        stream::Created::Stream(s) => {
-            if state.len() < STATE {
-                return put(answer, REFUSED, Refusal::BAD_STATE as usize, 0, 0);
-            }
-            keep(state, s);
-            put(answer, DONE, 0, 0, 0)
-        }
-        stream::Created::Refused(r) => put(
-            answer,
-            REFUSED,
-            r.number as usize,
-            r.detail as usize,
-            0,
-        ),
-    }
+    let created = stream::create(window, pool, store);
+    abx_words::tell_opened(state, answer, created)
 }
 
 // 0 and the bytes taken; or 2, number and detail.
@@ -164,13 +76,9 @@ pub extern "C" fn abx_stream_feed(
 )
     ensures { λ _. ⌜ StreamLeft (now (state .entry)) (now (state .exit)) (now (answer .entry)) (now (answer .exit)) (now (window .exit)) (now (pool .entry)) (now (store .entry)) [] (Chunks.feed (streamIn (now (state .entry))) (lend (now (window .entry)) (now (pool .entry)) (now (store .entry))) (now (chunk .entry))) ⌝ }
 {
-    match stream::feed(stream_in(state), window, pool, store, chunk) {
-        Fed::Took { count, stream } => {
-            keep(state, stream);
-            put(answer, DONE, count, 0, 0)
-        }
-        Fed::Refused(r) => put(answer, REFUSED, r.number as usize, r.detail as usize, 0),
-    }
+    let before = abx_words::stream_in(state);
+    let fed = stream::feed(before, window, pool, store, chunk);
+    abx_words::tell_fed(state, answer, fed)
 }
 
 // 0; or 2, number and detail.
@@ -184,13 +92,9 @@ pub extern "C" fn abx_stream_finish(
 )
     ensures { λ _. ⌜ StreamLeft (now (state .entry)) (now (state .exit)) (now (answer .entry)) (now (answer .exit)) (now (window .entry)) (now (pool .entry)) (now (store .entry)) [] (Chunks.finish (streamIn (now (state .entry))) (lend (now (window .entry)) (now (pool .entry)) (now (store .entry)))) ⌝ }
 {
-    match stream::finish(stream_in(state), window, pool, store) {
-        Closed::Stream(stream) => {
-            keep(state, stream);
-            put(answer, DONE, 0, 0, 0)
-        }
-        Closed::Refused(r) => put(answer, REFUSED, r.number as usize, r.detail as usize, 0),
-    }
+    let before = abx_words::stream_in(state);
+    let closed = stream::finish(before, window, pool, store);
+    abx_words::tell_closed(state, answer, closed)
 }
 
 // 0 and rows; 1; 3 where more is needed; or 2, number and detail.
@@ -205,43 +109,19 @@ pub extern "C" fn abx_stream_next(
 )
     ensures { λ _. ⌜ StreamLeft (now (state .entry)) (now (state .exit)) (now (answer .entry)) (now (answer .exit)) (now (window .entry)) (now (pool .exit)) (now (store .exit)) (now (rows .exit)) (Chunks.next (streamIn (now (state .entry))) (lend (now (window .entry)) (now (pool .entry)) (now (store .entry))) (now (rows .entry))) ⌝ }
 {
-    match stream::next(stream_in(state), window, pool, store, rows) {
-        Answer::Event {
-            rows: written,
-            stream,
-        } => {
-            keep(state, stream);
-            put(answer, DONE, written, 0, 0)
-        }
-        Answer::NeedMore(stream) => {
-            keep(state, stream);
-            put(answer, NEED_MORE, 0, 0, 0)
-        }
-        Answer::End(stream) => {
-            keep(state, stream);
-            put(answer, END, 0, 0, 0)
-        }
-        Answer::Refused(r) => put(answer, REFUSED, r.number as usize, r.detail as usize, 0),
-    }
+    let before = abx_words::stream_in(state);
+    let next = stream::next(before, window, pool, store, rows);
+    abx_words::tell_answer(state, answer, next)
 }
 
 // ---- the writer
 
 // 0, bytes written and names; or 2, number and detail.
-fn tell(answer: &mut [usize], written: Written)
-    ensures { λ _. ⌜ now (answer .exit) ≡ answered (now (answer .entry)) (replyWords (replyOf written)) ⌝ }
-{
-    match written {
-        Written::Wrote(w) => put(answer, DONE, w.written, w.names, 0),
-        Written::Refused(r) => put(answer, REFUSED, r.number as usize, r.detail as usize, 0),
-    }
-}
-
 #[no_mangle]
 pub extern "C" fn abx_writer_create(output: &mut [u8], pool: &[u32], answer: &mut [usize])
     ensures { λ _. ⌜ WriteLeft (now (answer .entry)) (now (answer .exit)) (now (output .exit)) (now (pool .entry)) (Spec.create (record { output = now (output .entry); table = now (pool .entry) })) ⌝ }
 {
-    tell(answer, writer::create(output, pool))
+    abx_words::tell_written(answer, writer::create(output, pool))
 }
 
 #[no_mangle]
@@ -258,7 +138,7 @@ pub extern "C" fn abx_write_event<'a>(
     ensures { λ _. ⌜ WriteLeft (now (answer .entry)) (now (answer .exit)) (now (output .exit)) (now (pool .exit)) (Spec.writeEvent (record { written = written; names = names }) (now (first .entry)) (now (second .entry)) (now (rows .entry)) (record { output = now (output .entry); table = now (pool .entry) })) ⌝ }
 {
     let w = Writer { written, names };
-    tell(
+    abx_words::tell_written(
         answer,
         writer::write_event(w, first, second, rows, output, pool),
     )
@@ -278,7 +158,7 @@ pub extern "C" fn abx_write_events<'a>(
     ensures { λ _. ⌜ WriteLeft (now (answer .entry)) (now (answer .exit)) (now (output .exit)) (now (pool .exit)) (Spec.writeEvents (record { written = written; names = names }) (now (first .entry)) (now (second .entry)) (now (rows .entry)) (record { output = now (output .entry); table = now (pool .entry) })) ⌝ }
 {
     let w = Writer { written, names };
-    tell(
+    abx_words::tell_written(
         answer,
         writer::write_events(w, first, second, rows, output, pool),
     )

@@ -2,52 +2,8 @@
 // found, 1 where no more is to be read, 2 where the query was refused; the place and the names; the events consumed; the rows
 // written; and a refusal's number and detail.
 use slice::Place;
-use slice::queries::Queried;
-use slice::queries::Reached;
-ghost use mathlib.Core.List.{List, [], _∷_};
-ghost use mathlib.Core.Path.{_≡_};
-ghost use Prim.Native.Nat.{ℕ};
 ghost use Rattle.slice_spec.specs.Queries.{query, find-attribute, attributes-of, find-all-attributes, all-attributes-of};
-ghost use Rattle.slice.specs.Answers.{leftOf};
-ghost use Rattle.abx.specs.QueryWords.{toldTo, queryWords, QueryLeft};
-
-const FOUND: usize = 0;
-
-const DONE: usize = 1;
-
-const REFUSED: usize = 2;
-
-fn put(answer: &mut [usize], what: usize, reached: Reached, number: usize, detail: usize)
-    ensures { λ _. ⌜ now (answer .exit) ≡ toldTo (now (answer .entry)) (what ∷ reached .place .at ∷ reached .place .names ∷ reached .events ∷ reached .rows ∷ number ∷ detail ∷ []) ⌝ }
-{
-    let place = reached.place;
-    if 7 <= answer.len() {
-        answer[0] = what;
-        answer[1] = place.at;
-        answer[2] = place.names;
-        answer[3] = reached.events;
-        answer[4] = reached.rows;
-        answer[5] = number;
-        answer[6] = detail;
-    }
-}
-
-// The pool and the rows that a query leaves are no part of the answer's words.
-fn tell(answer: &mut [usize], queried: Queried)
-    ensures { λ _. ⌜ ((pool rows : List ℕ) → now (answer .exit) ≡ toldTo (now (answer .entry)) (queryWords (leftOf pool rows queried))) ⌝ }
-{
-    match queried {
-        Queried::Found(reached) => put(answer, FOUND, reached, 0, 0),
-        Queried::Done(reached) => put(answer, DONE, reached, 0, 0),
-        Queried::Refused { refusal, reached } => put(
-            answer,
-            REFUSED,
-            reached,
-            refusal.number as usize,
-            refusal.detail as usize,
-        ),
-    }
-}
+ghost use Rattle.abx_words.specs.QueryWords.{QueryLeft};
 
 // The first attribute of this name on the next element of that name that has it.
 #[no_mangle]
@@ -64,7 +20,7 @@ pub extern "C" fn abx_find_attribute(
     ensures { λ _. ⌜ QueryLeft (now (answer .entry)) (now (answer .exit)) (now (pool .exit)) (now (rows .exit)) (query (find-attribute (now (element .entry)) (now (name .entry))) (record { at = at; names = names }) (now (document .entry)) (now (pool .entry)) (now (rows .entry))) ⌝ }
 {
     let place = Place { at, names };
-    tell(
+    abx_words::queries::tell(
         answer,
         slice::queries::find_attribute(place, document, pool, rows, element, name),
     )
@@ -84,7 +40,7 @@ pub extern "C" fn abx_attributes_of(
     ensures { λ _. ⌜ QueryLeft (now (answer .entry)) (now (answer .exit)) (now (pool .exit)) (now (rows .exit)) (query (attributes-of (now (element .entry))) (record { at = at; names = names }) (now (document .entry)) (now (pool .entry)) (now (rows .entry))) ⌝ }
 {
     let place = Place { at, names };
-    tell(
+    abx_words::queries::tell(
         answer,
         slice::queries::attributes_of(place, document, pool, rows, element),
     )
@@ -105,7 +61,7 @@ pub extern "C" fn abx_find_all_attributes(
     ensures { λ _. ⌜ QueryLeft (now (answer .entry)) (now (answer .exit)) (now (pool .exit)) (now (rows .exit)) (query (find-all-attributes (now (element .entry)) (now (name .entry))) (record { at = at; names = names }) (now (document .entry)) (now (pool .entry)) (now (rows .entry))) ⌝ }
 {
     let place = Place { at, names };
-    tell(
+    abx_words::queries::tell(
         answer,
         slice::queries::find_all_attributes(place, document, pool, rows, element, name),
     )
@@ -125,7 +81,7 @@ pub extern "C" fn abx_all_attributes_of(
     ensures { λ _. ⌜ QueryLeft (now (answer .entry)) (now (answer .exit)) (now (pool .exit)) (now (rows .exit)) (query (all-attributes-of (now (element .entry))) (record { at = at; names = names }) (now (document .entry)) (now (pool .entry)) (now (rows .entry))) ⌝ }
 {
     let place = Place { at, names };
-    tell(
+    abx_words::queries::tell(
         answer,
         slice::queries::all_attributes_of(place, document, pool, rows, element),
     )

@@ -1,5 +1,4 @@
-mod Choices
-mod Tests
+pub mod Tests
 mod Turns
-mod Shapes
+pub mod Shapes
 mod Equal

@@ -1,5 +1,4 @@
 pub mod Span
 pub mod Row
 pub mod Words
-pub mod Value
 pub mod Laws

@@ -38,14 +38,15 @@ complete-reads-on pool s finished n h = let x = ends-of finished n (event all (l
     go true false w c = reads-on-one pool s true n w
     go false false w c = reads-on-one pool s false n w
 
--- a complete event ends where its bytes end, or before
-pub ends-within : (s : List ℕ) (n : ℕ) (finished : Bool) (k : ℕ) (is y : Items) → Agree s [] k 1 is y → outcome finished is ≡ complete n → n ≤ length s
+-- a complete event has a byte, and ends where its bytes end, or before
+pub ends-within : (s : List ℕ) (n : ℕ) (finished : Bool) (k : ℕ) (is y : Items) → Agree s [] k 1 is y → outcome finished is ≡ complete n
+    → (1 ≤ n) × (n ≤ length s)
 unfolding outcome
 ends-within s n finished k (item i is) y a h = ends-within s n finished (after k i) is (a .1 .0) (a .1 .2) h
-ends-within s n true k (whole m true) y a h = let same : m ≡ n = cc h in omega (arith, a .1)
+ends-within s n true k (whole m true) y a h = let same : m ≡ n = cc h in (omega (arith, a .0), omega (arith, a .1))
 ends-within s n false k (whole m true) y a h = let z : _≡_ {A = ℕ} 0 1 = cc h in absurd (omega arith)
-ends-within s n true k (whole m false) y a h = let same : m ≡ n = cc h in omega (arith, a .1)
-ends-within s n false k (whole m false) y a h = let same : m ≡ n = cc h in omega (arith, a .1)
+ends-within s n true k (whole m false) y a h = let same : m ≡ n = cc h in (omega (arith, a .0), omega (arith, a .1))
+ends-within s n false k (whole m false) y a h = let same : m ≡ n = cc h in (omega (arith, a .0), omega (arith, a .1))
 ends-within s n true k (lacks j) y a h = let z : _≡_ {A = ℕ} 0 1 = cc h in absurd (omega arith)
 ends-within s n false k (lacks j) y a h = let z : _≡_ {A = ℕ} 0 1 = cc h in absurd (omega arith)
 ends-within s n finished k (stops j d) y a h = let z : _≡_ {A = ℕ} 0 1 = cc h in absurd (omega arith)

@@ -28,15 +28,7 @@ and-then {o} {o₁} {o₂} {a} {b} {at} {p} {q} s t =
       place = omega (arith, length-append a b, s .place, t .place);
     }
 
--- a byte more of a copy
-pub copied : (o out s : List ℕ) (at i : ℕ) → i < length s → out ≡ sets o at (take i s) → set out (at + i) (getD s i 0) ≡ sets o at (take (i + 1) s)
-copied o out s at i h e =
-    let x = getD s i 0 in
-    let before : Stored o at (take i s) out (at + i) = record { bytes = e; place = ap (λ (k : ℕ). at + k) (sym (length-take-le i s (omega arith))) } in
-    let now : Stored out (at + i) (x ∷ []) (set out (at + i) x) (at + i + 1) = record { bytes = refl; place = refl } in
-    and-then before now .bytes ∙ ap (sets o at) (sym (take-suc s i 0 h)) ∙ ap (λ (k : ℕ). sets o at (take k s)) (sym (add-one i))
-
--- and of its hex digits
+-- the hex digits of a byte more
 pub hexed : (o out s : List ℕ) (at i p high low : ℕ) → i < length s → out ≡ sets o at (hex (take i s)) → p ≡ at + i * 2
     → high ≡ digit (getD s i 0 / 16) → low ≡ digit (getD s i 0 % 16) → set (set out p high) (p + 1) low ≡ sets o at (hex (take (i + 1) s))
 unfolding hex

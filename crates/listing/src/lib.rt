@@ -27,18 +27,6 @@ fn digit(d: u8) -> u8
     b'a' - 10 + d
 }
 
-// Copies bytes to a place.
-fn copy(s: &[u8], out: &mut [u8], at: usize)
-    requires { ⌜ at + length (now s) ≤ length (now out) ⌝ }
-    ensures { λ _. ⌜ now (out .exit) ≡ sets (now (out .entry)) at (now (s .entry)) ⌝ }
-{
-    let mut i = 0;
-    while i < s.len() {
-        out[at + i] = s[i];
-        i += 1;
-    }
-}
-
 // Two digits for each byte.
 fn put_hex(s: &[u8], out: &mut [u8], at: usize)
     requires { ⌜ at + length (now s) * 2 ≤ length (now out) ⌝ }
@@ -270,7 +258,7 @@ pub fn end_line(events: usize, out: &mut [u8]) -> Lined
     if out.len() < len {
         return Lined::Refused(too_short());
     }
-    copy(b"end ", out, 0);
+    bytes::copy(b"end ", out, 0);
     let end = put_decimal(events, out, 4);
     out[end] = b'\n';
     Lined::Line(len)
@@ -286,7 +274,7 @@ pub fn refused_line(refusal: Refusal, out: &mut [u8]) -> Lined
     if out.len() < len {
         return Lined::Refused(too_short());
     }
-    copy(b"refused ", out, 0);
+    bytes::copy(b"refused ", out, 0);
     let after = put_decimal(number, out, 8);
     out[after] = b' ';
     let end = put_decimal(detail, out, after + 1);

@@ -105,7 +105,7 @@ fn document_nests<'a>(first: &'a [u8], second: &'a [u8], rows: &[u32]) -> bool
 pub fn nested<'a>(first: &'a [u8], second: &'a [u8], rows: &[u32]) -> Nesting
     ensures { λ r. ⌜ nestingOf r ≡ nesting (now (first .entry)) (now (second .entry)) (now (rows .entry)) ⌝ }
 {
-    if !event::list_forms(first, second, rows) {
+    if !forms::list_forms(first, second, rows) {
         return Nesting::Refused(Refusal::new(Refusal::NOT_ROWS));
     }
     if document_nests(first, second, rows) {

@@ -1,5 +1,6 @@
 // The scanner of both readers: readers of one event's fields, rows and attributes; a first pass over an event, which measures; a
-// second, which writes; and the step made of both. A place is counted from the event's first byte, where the slice starts.
+// second, which writes; and the step made of both. Module quick reads common events in one pass, module select takes the rows of an
+// event that a query asks for. A place is counted from the event's first byte, where the slice starts.
 mod quick;
 pub mod select;
 
@@ -680,7 +681,6 @@ fn measure(s: &[u8], finished: bool, tokens: &[u16; 256], table: &[u32], pool: P
 // ---- the second pass, over an event that was measured: its new names, then its rows
 
 // The pool after a row's name.
-
 fn after_name(pool: Pool, name: Reference) -> Pool
     ensures { λ r. ⌜ PoolAfter (countedName (pool .names) (referenceOf name)) pool r ⌝ }
 {
@@ -828,11 +828,8 @@ fn copy(s: &[u8], start: usize, len: usize, store: &mut [u8], to: usize)
     requires { ⌜ to + len ≤ length (now store) ⌝ }
     ensures { λ _. ⌜ now (store .exit) ≡ sets (now (store .entry)) to (take len (drop start (now (s .entry)))) ⌝ }
 {
-    let mut i = 0;
-    while i < len {
-        store[to + i] = s[start + i];
-        i += 1;
-    }
+    let end = start + len;
+    bytes::copy(&s[start..end], store, to);
 }
 
 // The names of so many pairs, which span s, are copied to the store from a place on, and the pairs then span the store.

@@ -17,15 +17,10 @@ ghost use Rattle.grammar.specs.Scan.{sound, itemWords, adds, pairs, outcome};
 ghost use Rattle.slice_spec.specs.Queries.{named, isElement, kindOf};
 ghost use Rattle.scanner.specs.Answers.{itemOf};
 ghost use Rattle.scanner.specs.Keep.{ItemPlaced, Keepable};
-ghost use Rattle.slice_spec.specs.Slice.{sizesBad, placeBad, itemsAt};
+ghost use Rattle.slice_spec.specs.Slice.{itemsAt};
 ghost use Rattle.slice_spec.specs.Bounds.{Fits};
 ghost use Rattle.slice_spec.specs.Turns.{passing, turnBy, turnOrRefuse};
 ghost use Rattle.scanner.specs.Select.{queryOf, asked, faultOf, Whole, Handed, progress, turnOf, takesAll, takesOne, taken, chosen, rowsOf, Room, Chose};
-
-// The longest document, in bytes, and the longest pool table, in words.
-const LIMIT: usize = 16_777_216;
-
-const MAX_TABLE: usize = 131_070;
 
 // What is asked for: attributes of a name, of elements of a name; or such elements with all their attributes.
 pub enum Query {
@@ -584,29 +579,6 @@ fn pick_at(
     }
 }
 
-// Whether a buffer has a length that no slice reader takes.
-pub fn sizes_bad(document: &[u8], table: &[u32]) -> bool
-    ensures { λ r. ⌜ r ≡ sizesBad (now (document .entry)) (now (table .entry)) ⌝ }
-{
-    if LIMIT < document.len() {
-        return true;
-    }
-    if table.len() % 2 == 1 {
-        return true;
-    }
-    MAX_TABLE < table.len()
-}
-
-// Whether the place or the count lies outside its buffer. Twice the names may not fit a usize, half the words do.
-pub fn place_bad(at: usize, names: usize, document: &[u8], table: &[u32]) -> bool
-    ensures { λ r. ⌜ r ≡ placeBad (record { at = at; names = names }) (now (document .entry)) (now (table .entry)) ⌝ }
-{
-    if document.len() < at {
-        return true;
-    }
-    table.len() / 2 < names
-}
-
 // The event at a place, for a query that has written so many rows: the rows of it that are asked for come after them.
 pub fn pick(
     query: Query,
@@ -621,10 +593,10 @@ pub fn pick(
 ) -> Picked
     ensures { λ r. ⌜ ((events : ℕ) → turnOf (progress at names (now (table .entry)) (now (rows .entry)) events written) (now (table .exit)) (now (rows .exit)) r ≡ turnOrRefuse (queryOf query (now (element .entry)) (now (name .entry))) (now (document .entry)) (progress at names (now (table .entry)) (now (rows .entry)) events written)) ⌝ }
 {
-    if sizes_bad(document, table) {
+    if slice_bounds::sizes_bad(document, table) {
         return Picked::Refused(Refusal::new(Refusal::BAD_SIZE));
     }
-    if place_bad(at, names, document, table) {
+    if slice_bounds::place_bad(at, names, document, table) {
         return Picked::Refused(Refusal::new(Refusal::BAD_STATE));
     }
     if at == document.len() {

@@ -101,7 +101,7 @@ module _ (p : Place) (document table rows : List ℕ) where
           let room : 2 * (p .names + length (adds (p .names) items)) ≤ length table = ltb-false _ _ b in
           let same : m ≡ len = cc y in
           let more : length (adds (p .names) items) ≡ added = cc y in
-          let k = ends-within s m true (p .names) items _ (agree-event s [] (sound (p .names) table (length document)) (p .names)) q in
+          let k = ends-within s m true (p .names) items _ (agree-event s [] (sound (p .names) table (length document)) (p .names)) q .1 in
           (omega (arith, length-drop (p .at) document, f .at-fits), omega arith)))
       sums-by n len added bytes incomplete q r = let z : _≡_ {A = ℕ} 0 1 = cc r in absurd (omega arith)
       sums-by n len added bytes (bad k d) q r = let z : _≡_ {A = ℕ} 0 1 = cc r in absurd (omega arith)

@@ -20,15 +20,6 @@ use Rattle.slice_spec.specs.Turns.{passed, halted, passing, turnBy, turn, turnO
 use Rattle.slice.specs.Answers.{leaves}
 use Rattle.slice.specs.declared.queries.Reached.{Reached}
 
--- a complete event has a byte
-some-byte : (s : List ℕ) (n k : ℕ) (is y : Items) → Agree s [] k 1 is y → outcome true is ≡ complete n → 1 ≤ n
-unfolding outcome
-some-byte s n k (item i is) y a h = some-byte s n (after k i) is (a .1 .0) (a .1 .2) h
-some-byte s n k (whole m true) y a h = let same : m ≡ n = cc h in omega (arith, a .0)
-some-byte s n k (whole m false) y a h = let same : m ≡ n = cc h in omega (arith, a .0)
-some-byte s n k (lacks j) y a h = let z : _≡_ {A = ℕ} 0 1 = cc h in absurd (omega arith)
-some-byte s n k (stops j d) y a h = let z : _≡_ {A = ℕ} 0 1 = cc h in absurd (omega arith)
-
 -- an event was consumed: what held before, and where that leads
 pub record Moved (document : List ℕ) (g g′ : Progress) : Type 0 where
   pub sizes-good : sizesBad document (g .table) ≡ false
@@ -76,8 +67,8 @@ module _ (q : Query) (document : List ℕ) where
       let s : List ℕ = drop (g .place .at) document in
       let is : Items = itemsAt (g .place) document (g .table) in
       let a = agree-event s [] (sound (g .place .names) (g .table) (length document)) (g .place .names) in
-      let k : m ≤ length s = ends-within s m true (g .place .names) is _ a o in
-      passing-moved g g′ m kind n _ _ _ good (some-byte s m (g .place .names) is _ a o) (omega (arith, length-drop (g .place .at) document)) h
+      let k = ends-within s m true (g .place .names) is _ a o in
+      passing-moved g g′ m kind n _ _ _ good (k .0) (omega (arith, k .1, length-drop (g .place .at) document)) h
   by-moved g g′ kind n incomplete o good placed h = let z : _≡_ {A = ℕ} 0 1 = cc h in absurd (omega arith)
   by-moved g g′ kind n (bad m d) o good placed h = let z : _≡_ {A = ℕ} 0 1 = cc h in absurd (omega arith)
 

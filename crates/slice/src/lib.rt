@@ -8,7 +8,7 @@ use wire::Refusal;
 ghost use mathlib.Core.Path.{_≡_};
 ghost use Prim.Native.Nat.{_*_, _≤_};
 ghost use lib.ListN.{length};
-ghost use Rattle.slice_spec.specs.Slice.{sizesBad, placeBad, create, nextFrom, next};
+ghost use Rattle.slice_spec.specs.Slice.{create, nextFrom, next};
 ghost use Rattle.slice_spec.specs.Bounds.{Fits};
 ghost use Rattle.slice.specs.Answers.{placeOf, createdOf, nextOf};
 
@@ -29,38 +29,11 @@ pub enum Next {
     Refused(Refusal),
 }
 
-const MAX_DOCUMENT: usize = 16_777_216;
-
-const MAX_TABLE: usize = 131_070;
-
-// Whether a buffer has a length that no reader takes.
-fn sizes_bad(document: &[u8], pool: &[u32]) -> bool
-    ensures { λ r. ⌜ r ≡ sizesBad (now (document .entry)) (now (pool .entry)) ⌝ }
-{
-    if MAX_DOCUMENT < document.len() {
-        return true;
-    }
-    if pool.len() % 2 == 1 {
-        return true;
-    }
-    MAX_TABLE < pool.len()
-}
-
-// Whether the place or the count lies outside its buffer. Twice the names may not fit a usize, half the words do.
-fn place_bad(place: Place, document: &[u8], pool: &[u32]) -> bool
-    ensures { λ r. ⌜ r ≡ placeBad (placeOf place) (now (document .entry)) (now (pool .entry)) ⌝ }
-{
-    if document.len() < place.at {
-        return true;
-    }
-    pool.len() / 2 < place.names
-}
-
 // A reader of the document, past its header.
 pub fn create(document: &[u8], pool: &[u32]) -> Created
     ensures { λ r. ⌜ createdOf r ≡ create (now (document .entry)) (now (pool .entry)) ⌝ }
 {
-    if sizes_bad(document, pool) {
+    if slice_bounds::sizes_bad(document, pool) {
         return Created::Refused(Refusal::new(Refusal::BAD_SIZE));
     }
     match wire::check_magic(document) {
@@ -112,10 +85,10 @@ fn next_from(place: Place, document: &[u8], pool: &mut [u32], rows: &mut [u32]) 
 pub fn next_event(place: Place, document: &[u8], pool: &mut [u32], rows: &mut [u32]) -> Next
     ensures { λ r. ⌜ nextOf place (now (pool .exit)) (now (rows .exit)) r ≡ next (placeOf place) (now (document .entry)) (now (pool .entry)) (now (rows .entry)) ⌝ }
 {
-    if sizes_bad(document, pool) {
+    if slice_bounds::sizes_bad(document, pool) {
         return Next::Refused(Refusal::new(Refusal::BAD_SIZE));
     }
-    if place_bad(place, document, pool) {
+    if slice_bounds::place_bad(place.at, place.names, document, pool) {
         return Next::Refused(Refusal::new(Refusal::BAD_STATE));
     }
     next_from(place, document, pool, rows)

@@ -118,7 +118,7 @@ module _ (r : Stream) (l : Lent) (from : ℕ) where
           let same : m ≡ len = cc y in
           let more : length (adds (r .names) items) ≡ added = cc y in
           let most : lengths (adds (r .names) items) ≡ bytes = cc y in
-          let k = ends-within s m (r .finished) (r .names) items _ (agree-event s [] (sound (r .names) (l .table) (length (l .store))) (r .names)) q in
+          let k = ends-within s m (r .finished) (r .names) items _ (agree-event s [] (sound (r .names) (l .table) (length (l .store))) (r .names)) q .1 in
           let n = length-slice from (r .end) (l .window) (f .end-fits) in
           record {
             end-within = omega arith;

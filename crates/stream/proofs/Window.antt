@@ -1,12 +1,16 @@
 -- The window's bytes as a feed moves and appends them.
 use mathlib.Core.List.{List, [], _∷_, _++_, append-assoc}
 use mathlib.Core.Path.{_≡_, refl, sym, ap, _∙_}
-use Prim.Native.Nat.{ℕ, zero, suc, _+_, _-_, _≤_, _<_}
+use Prim.Native.Nat.{ℕ, zero, suc, _+_, _-_, _≤_, _<_, min}
 use native.Mathlib.Nat.{le-of-suc-le-suc, not-suc-le-zero}
 use native.Mathlib.Numerals.{add-one}
 use native.Mathlib.Omega.{arith}
-use lib.ListN.{length, take, drop, getD, set, length-drop, take-append-drop}
-use lib.Seq.{slice, paste, paste-suc, take-at, drop-at, drop-drop, take-add, getD-drop, getD-append-add, length-slice, length-take-le, drop-append-add}
+use lib.ListN.{length, take, drop, getD, set, length-drop, length-append, take-append-drop}
+use lib.Seq.{slice, sets, sets-eq, paste, take-all, take-at, drop-at, drop-drop, take-add, getD-drop, getD-append-add, length-slice, length-take-le, drop-append-add}
+use lib.Dec.{ltb}
+use borrow.Author.Tests.{ltb-true, ltb-false}
+use Rattle.bytes.specs.Sets.{sets-take}
+use Rattle.grammar.specs.Choice.{byTest}
 
 -- a part of a slice, as the code lends it
 pub part-slice : (w : List ℕ) (start end : ℕ) → start ≤ end → end ≤ length w → take (end - start) (drop start w) ≡ slice start end w
@@ -58,11 +62,16 @@ moved-all w start end h k = ap (λ (l : List ℕ). l ++ drop (end - start) w) (p
 
 -- ---- and the chunk's come after them
 
-pub appended : (w₀ w chunk : List ℕ) (at i : ℕ) → at + i < length w₀ → i < length chunk → w ≡ paste w₀ at chunk i
-    → set w (at + i) (getD chunk i 0) ≡ paste w₀ at chunk (i + 1)
-appended w₀ w chunk at i h k e = rw (e, add-one) (paste-suc w₀ at chunk i 0 h k)
+-- as many as fit
+appended : (w chunk : List ℕ) (at n : ℕ) → at ≤ length w → n ≡ min (length chunk) (length w - at) → sets w at chunk ≡ paste w at chunk n
+appended w chunk at n h e =
+    let k : length (take n chunk) ≡ n = length-take-le n chunk (omega arith) in
+    let same : sets w at (take n chunk) ≡ sets w at chunk =
+    byTest (ltb (length w - at) (length chunk)) (λ t. sets-take w chunk at n (omega (arith, ltb-true (length w - at) (length chunk) t)))
+    (λ t. ap (sets w at) (take-all n chunk (omega (arith, ltb-false (length w - at) (length chunk) t)))) in
+    sym same ∙ sets-eq (take n chunk) w at (omega arith) ∙ ap (λ (m : ℕ). take at w ++ take n chunk ++ drop (at + m) w) k
 
-pub fed-window : (w chunk : List ℕ) (start end n : ℕ) → end ≤ length w
+fed-window : (w chunk : List ℕ) (start end n : ℕ) → end ≤ length w
     → paste (slice start end w ++ drop (end - start) w) (end - start) chunk n ≡ slice start end w ++ (take n chunk ++ drop (end - start + n) w)
 fed-window w chunk start end n h =
     let k : length (slice start end w) ≡ end - start = length-slice start end w h in
@@ -71,3 +80,11 @@ fed-window w chunk start end n h =
     ∙ drop-append-add (slice start end w) (drop (end - start) w) n
     ∙ drop-drop n (end - start) w in
     rw (take-at (slice start end w) (drop (end - start) w) (end - start) k, rest, append-assoc)
+
+pub filled : (w chunk : List ℕ) (start end n : ℕ) → start ≤ end → end ≤ length w → n ≡ min (length chunk) (length w - (end - start))
+    → sets (slice start end w ++ drop (end - start) w) (end - start) chunk ≡ slice start end w ++ (take n chunk ++ drop (end - start + n) w)
+filled w chunk start end n h k e =
+    let v : List ℕ = slice start end w ++ drop (end - start) w in
+    let l : length v ≡ length w =
+    omega (arith, length-append (slice start end w) (drop (end - start) w), length-slice start end w k, length-drop (end - start) w) in
+    appended v chunk (end - start) n (omega arith) (e ∙ ap (λ (m : ℕ). min (length chunk) (m - (end - start))) (sym l)) ∙ fed-window w chunk start end n k

@@ -8,7 +8,7 @@ ghost use mathlib.Core.Path.{_≡_};
 ghost use Prim.Native.Nat.{_+_, _-_, _≤_, min};
 ghost use lib.Dec.{eqb};
 ghost use lib.ListN.{length, take, drop};
-ghost use lib.Seq.{paste, slice};
+ghost use lib.Seq.{slice};
 ghost use Rattle.stream_spec.specs.Stream.{sizesBad, stateBad, create, feed, finish, passed, nextFrom, nextHeader, next};
 ghost use Rattle.stream.specs.Answers.{streamOf, lend, fault, openFault, Fits, Sums, later, checkedOf, createdOf, fedOf, closedOf, answerOf};
 
@@ -144,18 +144,6 @@ fn compact(window: &mut [u8], start: usize, end: usize)
     }
 }
 
-// Copies the first n bytes of the chunk into the window, from a place on.
-fn append(window: &mut [u8], at: usize, chunk: &[u8], n: usize)
-    requires { ⌜ (at + n ≤ length (now window)) × (n ≤ length (now chunk)) ⌝ }
-    ensures { λ _. ⌜ now (window .exit) ≡ paste (now (window .entry)) at (now (chunk .entry)) n ⌝ }
-{
-    let mut i = 0;
-    while i < n {
-        window[at + i] = chunk[i];
-        i += 1;
-    }
-}
-
 fn least(a: usize, b: usize) -> usize
     ensures { λ r. ⌜ r ≡ min a b ⌝ }
 {
@@ -173,7 +161,7 @@ fn fill(window: &mut [u8], start: usize, end: usize, chunk: &[u8]) -> usize
     let waiting = end - start;
     let fitting = least(chunk.len(), window.len() - waiting);
     compact(window, start, end);
-    append(window, waiting, chunk, fitting);
+    bytes::copy(chunk, window, waiting);
     fitting
 }
 

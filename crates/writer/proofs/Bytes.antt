@@ -18,10 +18,6 @@ use Rattle.writer_spec.specs.Encode.{be16, sized, nameBy, valueBytes, tokenType
 use Rattle.writer.specs.Passes.{namedBy, rowBy, tokenIn}
 use Rattle.writer.proofs.Values.{sized-length}
 
--- a part that was lent and is back with other bytes in it
-pub part-back : (l ws : List ℕ) (i k : ℕ) → k ≡ length ws → i + length ws ≤ length l → putMid i k l ws ≡ sets l i ws
-part-back l ws i k e h = rw (e, drop-drop) (sym (append-assoc (take i l) ws (drop (i + length ws) l)) ∙ sym (sets-eq ws l i h))
-
 -- parts one after another
 pub in-turn : (o o₁ o₂ a b : List ℕ) (at p : ℕ) → o₁ ≡ sets o at a → p ≡ at + length a → o₂ ≡ sets o₁ p b → o₂ ≡ sets o at (a ++ b)
 in-turn o o₁ o₂ a b at p e q f = f ∙ rw (e, q) (sym (sets-append o at a b))
@@ -29,14 +25,9 @@ in-turn o o₁ o₂ a b at p e q f = f ∙ rw (e, q) (sym (sets-append o at a b)
 pub place-after : (a b : List ℕ) (at p q : ℕ) → p ≡ at + length a → q ≡ p + length b → q ≡ at + length (a ++ b)
 place-after a b at p q e f = omega (arith, length-append a b)
 
-pub sized-stored : (o o₁ part s : List ℕ) (at : ℕ) → o₁ ≡ sets o at (be16 (length s)) → part ≡ s → at + (2 + length s) ≤ length o
-    → putMid (at + 2) (at + 2 + length s - (at + 2)) o₁ part ≡ sets o at (sized s)
+pub sized-stored : (o o₁ o₂ s : List ℕ) (at : ℕ) → o₁ ≡ sets o at (be16 (length s)) → o₂ ≡ sets o₁ (at + 2) s → o₂ ≡ sets o at (sized s)
 unfolding sized be16
-sized-stored o o₁ part s at e p h =
-    let l : length o₁ ≡ length o = ap length e ∙ length-sets o at (be16 (length s)) in
-    rw p
-    (part-back o₁ s (at + 2) (at + 2 + length s - (at + 2)) (add-sub-cancel-left (at + 2) (length s)) (omega arith)
-    ∙ in-turn o o₁ (sets o₁ (at + 2) s) (be16 (length s)) s at (at + 2) e refl refl)
+sized-stored o o₁ o₂ s at e f = in-turn o o₁ o₂ (be16 (length s)) s at (at + 2) e refl f
 
 pub sized-place : (s : List ℕ) (at : ℕ) → at + 2 + length s ≡ at + length (sized s)
 sized-place s at = omega (arith, sized-length s)

@@ -1,4 +1,4 @@
-mod Tests
+mod Spans
 mod Searches
 mod Links
 mod Values
@@ -6,7 +6,6 @@ mod Keeps
 mod Pools
 mod Noting
 mod Bytes
-mod Blocks
 mod Measures
 mod Turns
 mod Measuring

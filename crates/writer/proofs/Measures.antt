@@ -19,7 +19,7 @@ use Rattle.grammar.specs.Choice.{byTest, cond-by}
 use Rattle.writer_spec.specs.Encode.{be16, be32, find, nameBy, nameBytes, valueBytes, rowBytes, keepRow}
 use Rattle.writer_spec.specs.Faults.{stringFault, valueFault}
 use Rattle.writer_spec.specs.Writer.{Refusal, _before_, refuseIf, rowRefusal}
-use Rattle.writer_spec.specs.Wrote.{take-sets}
+use Rattle.bytes.specs.Sets.{take-sets}
 use Rattle.writer.specs.Answers.{takes, stops, measured, placed, barred, placedBy}
 use Rattle.writer.specs.Notes.{slotOf, noteName, noteIndex, count, Unnoted, LookSays}
 use Rattle.writer.specs.declared.Look.the-variants as Look
@@ -29,7 +29,7 @@ use Rattle.writer.specs.Passes.{nameRefusal, capped, most-notes, Roomy, 
 use Rattle.writer.proofs.Pools.{keep-there, keep-new, keep-full, find-below}
 use Rattle.writer.proofs.Links.{count-more, name-new}
 use Rattle.writer.proofs.Noting.{few, still, noted-kept, noted-new}
-use Rattle.writer.proofs.Tests.{span-short}
+use Rattle.writer.proofs.Spans.{span-short}
 use Rattle.writer.proofs.Values.{sized-length}
 
 -- a name that passes is faultless, and its search meets no bad pair

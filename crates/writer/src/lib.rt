@@ -777,64 +777,6 @@ fn put_u32(output: &mut [u8], at: usize, n: u32)
     output[at + 3] = (n % 256) as u8;
 }
 
-fn copy_bytes(to: &mut [u8], from: &[u8])
-    requires { ⌜ length (now to) ≡ length (now from) ⌝ }
-    ensures { λ _. ⌜ now (to .exit) ≡ now (from .entry) ⌝ }
-{
-    let mut done = 0;
-    while done < from.len() {
-        to[done] = from[done];
-        done += 1;
-    }
-}
-
-// As many bytes as a block has, from a place on. Read whole before it is written, a block of a known length is one word.
-fn copy_block(to: &mut [u8], from: &[u8], at: usize, block: &mut [u8])
-    requires { ⌜ length (now to) ≡ length (now from) ⌝ }
-    requires { ⌜ at + length (now block) ≤ length (now from) ⌝ }
-    ensures { λ _. ⌜ now (to .exit) ≡ sets (now (to .entry)) at (take (length (now (block .entry))) (drop at (now (from .entry)))) ⌝ }
-{
-    let end = at + block.len();
-    copy_bytes(block, &from[at..end]);
-    copy_bytes(&mut to[at..end], block);
-}
-
-// Block by block; the last may overlap the one before it.
-fn copy_blocks(to: &mut [u8], from: &[u8], block: &mut [u8])
-    requires { ⌜ length (now to) ≡ length (now from) ⌝ }
-    requires { ⌜ (0 < length (now block)) × (length (now block) ≤ length (now from)) ⌝ }
-    ensures { λ _. ⌜ now (to .exit) ≡ now (from .entry) ⌝ }
-{
-    let size = block.len();
-    let last = from.len() - size;
-    let mut at = 0;
-    while at < last {
-        copy_block(to, from, at, block);
-        at += size;
-    }
-    copy_block(to, from, last, block);
-}
-
-fn copy(to: &mut [u8], from: &[u8])
-    requires { ⌜ length (now to) ≡ length (now from) ⌝ }
-    ensures { λ _. ⌜ now (to .exit) ≡ now (from .entry) ⌝ }
-{
-    let len = from.len();
-    if len < 4 {
-        copy_bytes(to, from);
-        return;
-    }
-    if len < 8 {
-        copy_blocks(to, from, &mut [0u8; 4]);
-        return;
-    }
-    if len < 16 {
-        copy_blocks(to, from, &mut [0u8; 8]);
-        return;
-    }
-    copy_blocks(to, from, &mut [0u8; 16]);
-}
-
 // A length and the bytes; the place after them.
 fn put_sized(output: &mut [u8], at: usize, s: &[u8]) -> usize
     requires { ⌜ at + (2 + length (now s)) ≤ length (now output) ⌝ }
@@ -843,9 +785,8 @@ fn put_sized(output: &mut [u8], at: usize, s: &[u8]) -> usize
 {
     put_u16(output, at, s.len());
     let start = at + 2;
-    let end = start + s.len();
-    copy(&mut output[start..end], s);
-    end
+    bytes::copy(s, output, start);
+    start + s.len()
 }
 
 // The name of a row that has one.
@@ -1172,9 +1113,9 @@ fn forms(single: bool, first: &[u8], second: &[u8], rows: &[u32]) -> bool
     ensures { λ r. ⌜ r ≡ formsBy single (now (first .entry)) (now (second .entry)) (now (rows .entry)) ⌝ }
 {
     if single {
-        return event::event_forms(first, second, rows);
+        return forms::event_forms(first, second, rows);
     }
-    event::list_forms(first, second, rows)
+    forms::list_forms(first, second, rows)
 }
 
 // The header and an empty pool.

@@ -9,6 +9,7 @@ use borrow.Author.Tests.{ltb-false, le-ltb}
 use lib.ListN.{length, getD, take, drop, length-append}
 use lib.Seq.{sets-eq, length-sets}
 use lib.Dec.{ltb, eqb}
+use Rattle.bytes.specs.Sets.{take-sets}
 use Rattle.wire.specs.Header.{magicBytes}
 use Rattle.wire.specs.Refusal.{notRows}
 use Rattle.event.specs.Row.{Row, Event, rowAt, rowsAt}
@@ -23,7 +24,7 @@ use Rattle.writer_spec.specs.Taken.{no-faults, Words32, taken}
 use Rattle.writer_spec.specs.Writer.{Writer, Lent, wrote, refused, Left, Refusal, _before_, refuseIf, sizesBad, stateBad, poolAt, meetsBad, rowsRefusal, rowsPairs, unless, advanced, begin, create, refusal, append, write, rowsIn, writeEvent, writeEvents}
 use Rattle.writer_spec.specs.Held.{pairs-count}
 use Rattle.writer_spec.specs.Unrefused.{no-refuse, no-fault, fits, room-enough}
-use Rattle.writer_spec.specs.Wrote.{wrote-is, take-sets, poolAfter, Wrote, encode-more, pool-more, pool-is, search-sound, written-fits, names-fit, append-keeps}
+use Rattle.writer_spec.specs.Wrote.{wrote-is, poolAfter, Wrote, encode-more, pool-more, pool-is, search-sound, written-fits, names-fit, append-keeps}
 
 -- ---- the calls
 

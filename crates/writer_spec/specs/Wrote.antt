@@ -7,6 +7,7 @@ use native.Mathlib.Nat.{add-zero, add-assoc}
 use native.Mathlib.Omega.{arith}
 use lib.ListN.{length, take, drop, length-append, take-append-drop}
 use lib.Seq.{sets, sets-eq, take-at, length-take-le}
+use Rattle.bytes.specs.Sets.{take-sets}
 use Rattle.wire.specs.Header.{magicBytes}
 use Rattle.event.specs.Row.{Row, Event}
 use Rattle.grammar.specs.Document.{Pool}
@@ -87,11 +88,6 @@ module _ (es : List Event) (rs : List Row) where
 -- a reply says one state
 pub wrote-is : (q : Reply) (a b : Writer) → q ≡ wrote a → q ≡ wrote b → a ≡ b
 wrote-is q a b h k = cc
-
-pub take-sets : (s b : List ℕ) (at : ℕ) → at + length b ≤ length s → take (at + length b) (sets s at b) ≡ take at s ++ b
-take-sets s b at h =
-    rw (sets-eq b s at h)
-    (take-at (take at s ++ b) (drop (at + length b) s) (at + length b) (omega (arith, length-append (take at s) b, length-take-le at s (omega arith))))
 
 module _ (es : List Event) (w : Writer) (l : Lent) (h : Wrote es w l) where
   output-splits : encode es ++ drop (w .written) (l .output) ≡ l .output

@@ -1,7 +1,7 @@
-use Rattle.abx.proofs.Left.{stream-left}
-use Rattle.stream.specs.Answers.{lend, fedOf}
-use Rattle.stream_spec.specs.Stream as Chunks
-use mathlib.Core.Path.{refl, sym, ap, _∙_}
+use mathlib.Core.Path.{ap, _∙_}
+use Rattle.stream_spec.specs.Stream.{Stream, feed}
+use Rattle.stream.specs.Answers.{lend}
+use Rattle.abx.proofs.Left.{fed-lends, stream-left}
 use borrow.Author.Needs.{needs}
 use Rattle.abx.proofs.abx_stream_feed.Statement.{statement}
 use Rattle.abx.proofs.abx_stream_feed.Tie as tie
@@ -12,26 +12,8 @@ stream-in-requires c κs = search needs
 feed-requires : tie.Need-feed-requires
 feed-requires c κs = search needs
 
-enum-known-count : tie.Need-enum-known-count
-enum-known-count c = search needs
-
-keep-requires : tie.Need-keep-requires
-keep-requires c κs = search needs
-
-put-requires : tie.Need-put-requires
-put-requires c κs = search needs
-
-enum-known-r : tie.Need-enum-known-r
-enum-known-r c = search needs
-
-cast-put : tie.Need-cast-put
-cast-put c = search needs
-
-cast-put-2 : tie.Need-cast-put-2
-cast-put-2 c = search needs
-
-put-requires-2 : tie.Need-put-requires-2
-put-requires-2 c κs = search needs
+tell-fed-requires : tie.Need-tell-fed-requires
+tell-fed-requires c κs = search needs
 
 same-length : tie.Need-same-length
 same-length c = search needs
@@ -44,26 +26,11 @@ same-length-3 c = search needs
 
 returns : tie.Need-returns
 returns c =
-    let d = c .before .before .before .before .before .before .before .before .before .before .before .before .before in
-    let a = d .before .before .before .before .before .before .before .before .before .before .args in
-    let e = ap (fedOf _ _) (sym (c .before .before .before .before .before .before .before .before .before .count .given .1)) ∙ (d .feed .ensures ∙ ap (λ (r : Chunks.Stream). Chunks.feed r (lend (a .window .now) (a .pool .now) (a .store .now)) (a .chunk .now)) (d .before .before .stream-in .ensures)) in
-    stream-left (a .state .now) _ (a .answer .now) _ _ _ (c .before .before .before .before .before .before .keep .ensures) (c .before .before .put .ensures) e
-
-same-length-4 : tie.Need-same-length-4
-same-length-4 c = search needs
-
-same-length-5 : tie.Need-same-length-5
-same-length-5 c = search needs
-
-same-length-6 : tie.Need-same-length-6
-same-length-6 c = search needs
-
-returns-2 : tie.Need-returns-2
-returns-2 c =
-    let d = c .before .before .before .before .before .before .before .before .before .before .before in
-    let a = d .before .before .before .before .before .before .before .before .before .before .args in
-    let e = ap (fedOf _ _) (sym (c .before .before .before .before .before .before .before .r .given .1)) ∙ (d .feed .ensures ∙ ap (λ (r : Chunks.Stream). Chunks.feed r (lend (a .window .now) (a .pool .now) (a .store .now)) (a .chunk .now)) (d .before .before .stream-in .ensures)) in
-    stream-left (a .state .now) _ (a .answer .now) _ _ _ refl (c .before .before .put2 .ensures) e
+    let a = c .before .before .before .before .before .before .before .before .before .before .before .before .before .before .before .before .before .before .before .args in
+    let r = c .before .before .before .before .before .before .before .before .before .before .before .stream-in in
+    let f = c .before .before .before .before .before .before .before .before .before .feed in
+    let e = ap (λ (s : Stream). feed s (lend (a .window .now) (a .pool .now) (a .store .now)) (a .chunk .now)) (r .ensures) in
+    stream-left _ _ _ _ _ _ _ _ (c .before .before .before .before .tell-fed .ensures (r .result) (lend (f .last .1 .0) (a .pool .now) (a .store .now))) (fed-lends _ _ (f .result)) (f .ensures ∙ e)
 
 pub abx-stream-feed-spec : {M : Type 1} → statement M
 abx-stream-feed-spec =
@@ -71,18 +38,8 @@ abx-stream-feed-spec =
     (tie.spec
     stream-in-requires
     feed-requires
-    enum-known-count
-    keep-requires
-    put-requires
-    enum-known-r
-    cast-put
-    cast-put-2
-    put-requires-2
+    tell-fed-requires
     same-length
     same-length-2
     same-length-3
-    returns
-    same-length-4
-    same-length-5
-    same-length-6
-    returns-2)
+    returns)

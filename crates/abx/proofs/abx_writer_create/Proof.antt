@@ -6,8 +6,8 @@ use Rattle.abx.proofs.abx_writer_create.Tie as tie
 create-requires : tie.Need-create-requires
 create-requires c κs = search needs
 
-tell-requires : tie.Need-tell-requires
-tell-requires c κs = search needs
+tell-written-requires : tie.Need-tell-written-requires
+tell-written-requires c κs = search needs
 
 same-length : tie.Need-same-length
 same-length c = search needs
@@ -16,8 +16,8 @@ same-length-2 : tie.Need-same-length-2
 same-length-2 c = search needs
 
 returns : tie.Need-returns
-returns c = write-left _ _ _ _ _ _ (c .before .before .tell .ensures) (c .before .before .before .before .before .create .ensures)
+returns c = write-left _ _ _ _ _ _ (c .before .before .tell-written .ensures) (c .before .before .before .before .before .create .ensures)
 
 pub abx-writer-create-spec : {M : Type 1} → statement M
 abx-writer-create-spec =
-    tie.close (tie.spec create-requires tell-requires same-length same-length-2 returns)
+    tie.close (tie.spec create-requires tell-written-requires same-length same-length-2 returns)

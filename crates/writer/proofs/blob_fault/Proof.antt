@@ -1,5 +1,5 @@
 use Rattle.writer_spec.specs.Faults.{blobFault}
-use Rattle.writer.proofs.Tests.{tests}
+use Rattle.event.proofs.Tests.{tests}
 use borrow.Author.Needs.{needs}
 use Rattle.writer.proofs.blob_fault.Statement.{statement}
 use Rattle.writer.proofs.blob_fault.Tie as tie

@@ -1,4 +1,4 @@
-use Rattle.writer.proofs.Tests.{tests}
+use Rattle.event.proofs.Tests.{tests}
 use Rattle.writer.specs.Passes.{capped}
 use borrow.Author.Needs.{needs}
 use Rattle.writer.proofs.capped.Statement.{statement}

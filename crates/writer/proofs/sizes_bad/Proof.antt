@@ -1,4 +1,4 @@
-use Rattle.writer.proofs.Tests.{tests}
+use Rattle.event.proofs.Tests.{tests}
 use Rattle.writer_spec.specs.Writer.{sizesBad}
 use Rattle.writer.proofs.sizes_bad.Statement.{statement}
 use Rattle.writer.proofs.sizes_bad.Tie as tie

@@ -1,5 +1,6 @@
 use lib.ListN.{length}
-use Rattle.writer.proofs.Tests.{tests, half}
+use Rattle.event.proofs.Tests.{tests}
+use Rattle.grammar.specs.Choice.{half-test}
 use Rattle.writer_spec.specs.Writer.{stateBad}
 use borrow.Author.Tests.{le-ltb}
 use Rattle.writer.proofs.state_bad.Statement.{statement}
@@ -11,7 +12,7 @@ returns c = search tests
 
 returns-2 : tie.Need-returns-2
 unfolding stateBad
-returns-2 c = rw (le-ltb _ _ (c .before .if1 .left)) (half (length (c .before .before .args .pool .now)) (c .before .before .args .writer .names))
+returns-2 c = rw (le-ltb _ _ (c .before .if1 .left)) (half-test (length (c .before .before .args .pool .now)) (c .before .before .args .writer .names))
 
 pub state-bad-spec : {M : Type 1} → statement M
 state-bad-spec = tie.close (tie.spec returns returns-2)

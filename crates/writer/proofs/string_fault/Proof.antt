@@ -1,4 +1,4 @@
-use Rattle.writer.proofs.Tests.{tests}
+use Rattle.event.proofs.Tests.{tests}
 use Rattle.writer_spec.specs.Faults.{stringFault}
 use borrow.Author.Tests.{le-ltb}
 use mathlib.Core.Path.{sym, _∙_}

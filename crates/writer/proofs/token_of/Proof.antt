@@ -1,4 +1,4 @@
-use Rattle.writer.proofs.Tests.{tests}
+use Rattle.event.proofs.Tests.{tests}
 use native.Mathlib.Omega.{arith}
 use Rattle.writer.specs.Passes.{tokenIn}
 use borrow.Author.Tests.{le-ltb}

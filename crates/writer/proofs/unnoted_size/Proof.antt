@@ -3,7 +3,7 @@ use native.Mathlib.Omega.{arith}
 use mathlib.Core.Path.{refl, sym, ap, _∙_}
 use lib.ListN.{getD}
 use Rattle.writer.specs.Answers.{nameFoundOf}
-use Rattle.writer.proofs.Tests.{span-short}
+use Rattle.writer.proofs.Spans.{span-short}
 use borrow.Author.Needs.{needs}
 use Rattle.writer.proofs.unnoted_size.Statement.{statement}
 use Rattle.writer.proofs.unnoted_size.Tie as tie

@@ -1,6 +1,6 @@
 use native.Mathlib.Omega.{arith}
 use lib.ListN.{getD}
-use Rattle.writer.proofs.Tests.{span-short}
+use Rattle.writer.proofs.Spans.{span-short}
 use borrow.Author.Needs.{needs}
 use Rattle.writer.proofs.value_in.Statement.{statement}
 use Rattle.writer.proofs.value_in.Tie as tie

@@ -1,0 +1,3 @@
+mod Choices
+mod Turns
+mod Shapes
