@@ -1,4 +1,8 @@
 pub mod Cases
 pub mod Held
-pub mod Stepping
-pub mod Seeking
+pub mod Method
+pub mod Results
+pub mod Shared
+pub mod Walk
+pub mod ByAttribute
+pub mod ByElement

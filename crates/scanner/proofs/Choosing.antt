@@ -25,7 +25,7 @@ use Rattle.slice_spec.specs.Queries.{Words, named, isElement, concat, kindOf}
 use Rattle.scanner.specs.declared.Pool.{Pool}
 use Rattle.scanner.specs.Keep.{PoolAfter, Keepable, ItemPlaced}
 use Rattle.scanner.proofs.Rest.{rest}
-use Rattle.scanner.proofs.Walk.{soundOf, item-placed, first-fits, event-tag, event-single}
+use Rattle.scanner.proofs.Walk.{soundOf, room-after, keepable-next, item-placed, first-fits, event-tag, event-single}
 use Rattle.scanner.specs.declared.select.Query.{Query}
 use Rattle.scanner.specs.Select.{takesAll, takesOne, rowsOf, taken, chosen, Room, Chose}
 
@@ -68,21 +68,7 @@ module _ (document name : List ℕ) (base : ℕ) (table : List ℕ) (i : Item) w
 
 module _ (base : ℕ) (s table : List ℕ) (i : Item) (is : Items) (p : Pool) (k : Keepable base s (item i is) p table) where
   row-placed : ItemFits (length s) (p .names) i → ItemPlaced base table i
-  unfolding adds
-  row-placed f =
-      let m : 2 * after (p .names) i ≤ length table = omega (arith, after-adds (p .names) i, length-append (addsItem (p .names) i) (adds (after (p .names) i) is), k .pairs-fit) in
-      item-placed base (length s) table (k .in-store) (p .names) i f m
-
-  keepable-next : (q : Pool) → PoolAfter (after (p .names) i) p q → Keepable base s is q table
-  unfolding adds
-  keepable-next q a =
-      let n = after-adds (p .names) i in
-      record {
-        ended = k .ended;
-        in-store = k .in-store;
-        pairs-fit = rw (a .names-are) (omega (arith, k .pairs-fit, length-append (addsItem (p .names) i) (adds (after (p .names) i) is)));
-        kept-first = omega (arith, k .kept-first, a .kept-stays, a .names-are);
-      }
+  row-placed f = item-placed base (length s) table (k .in-store) (p .names) i f (room-after base s table i is p k)
 
 keepable-as : (base : ℕ) (s table : List ℕ) (p : Pool) (a b : Items) → a ≡ b → Keepable base s a p table → Keepable base s b p table
 keepable-as base s table p a b e k = rw (← e) k
@@ -140,7 +126,7 @@ module _ (base : ℕ) (s : List ℕ) (S : ℕ → Bool) (table document name : L
       sound-stays = sound-next S table _ p q a (g .same-sound)
 
       keepable-on : Keepable base s is q table
-      keepable-on = keepable-next base s table i is p (g .keepable) q a
+      keepable-on = keepable-next base s table i is p (g .keepable) q table refl a
 
       pub taking-skip : (all || named document name w) ≡ false → Taking is q rows count
       unfolding rowsOf taken
@@ -282,7 +268,7 @@ module _ (q : Query) (document element name : List ℕ) (base : ℕ) (s : List �
       pub rest-keepable : (q′ : Pool) → PoolAfter (after (p .names) i) p q′ → Keepable base s (rest (soundOf q′ table) s (q′ .names) n) q′ table
       rest-keepable q′ a =
           let z : soundOf q′ table ≡ S = sound-next S table _ p q′ a refl in
-          let g : Keepable base s (rest S s (after (p .names) i) n) q′ table = keepable-next base s table i _ p (rw (event-tag S s (p .names) i n e tag) at k) q′ a in
+          let g : Keepable base s (rest S s (after (p .names) i) n) q′ table = keepable-next base s table i _ p (rw (event-tag S s (p .names) i n e tag) at k) q′ table refl a in
           keepable-as base s table q′ _ _ (ap (λ (x : ℕ → Bool). rest x s (after (p .names) i) n) (sym z) ∙ ap (λ (x : ℕ). rest (soundOf q′ table) s x n) (sym (a .names-are))) g
 
       pub others-are : (q′ : Pool) → PoolAfter (after (p .names) i) p q′ → (all one : Bool) → all ≡ takesAll q → one ≡ takesOne q

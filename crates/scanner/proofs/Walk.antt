@@ -145,6 +145,23 @@ soundOf pool table = sound (pool .kept) table (pool .stored)
 abbrev pub KeepsTo : ℕ → List ℕ → Pool → List ℕ → ℕ → List ℕ
 KeepsTo base s pool table at = sets table (2 * pool .names) (pairs base (adds (pool .names) (rest (soundOf pool table) s (pool .names) at)))
 
+-- what can still be kept after a row: the table has room for its pairs, and for those after them
+module _ (base : ℕ) (s table : List ℕ) (i : Item) (is : Items) (p : Pool) (k : Keepable base s (item i is) p table) where
+  pub room-after : 2 * after (p .names) i ≤ length table
+  unfolding adds
+  room-after = omega (arith, after-adds (p .names) i, length-append (addsItem (p .names) i) (adds (after (p .names) i) is), k .pairs-fit)
+
+  pub keepable-next : (q : Pool) (table₁ : List ℕ) → length table₁ ≡ length table → PoolAfter (after (p .names) i) p q → Keepable base s is q table₁
+  unfolding adds
+  keepable-next q table₁ l a =
+      let n = after-adds (p .names) i in
+      record {
+        ended = k .ended;
+        in-store = k .in-store;
+        pairs-fit = rw (a .names-are) (omega (arith, l, k .pairs-fit, length-append (addsItem (p .names) i) (adds (after (p .names) i) is)));
+        kept-first = omega (arith, k .kept-first, a .kept-stays, a .names-are);
+      }
+
 -- what is left: these rows' names to be kept make the table T
 pub record Keeping (base : ℕ) (s : List ℕ) (S : ℕ → Bool) (T : List ℕ) (is : Items) (pool : Pool) (table : List ℕ) : Type 0 where
   pub same-sound : sound (pool .kept) table (pool .stored) ≡ S
@@ -157,13 +174,8 @@ module _ (base : ℕ) (s : List ℕ) (S : ℕ → Bool) (T : List ℕ) where
   keeping-as a b pool table e g = rw (← e) g
 
   module _ (i : Item) (is : Items) (p : Pool) (table : List ℕ) (g : Keeping base s S T (item i is) p table) (f : ItemFits (length s) (p .names) i) where
-    room-for : 2 * after (p .names) i ≤ length table
-    unfolding adds
-    room-for =
-        omega (arith, after-adds (p .names) i, length-append (addsItem (p .names) i) (adds (after (p .names) i) is), g .keepable .pairs-fit)
-
     pub keeping-room : NameRoom base (p .names) table (i .name) × ValueRoom base (countedName (p .names) (i .name)) table (i .value)
-    keeping-room = item-room base (length s) table (g .keepable .in-store) (p .names) i f room-for
+    keeping-room = item-room base (length s) table (g .keepable .in-store) (p .names) i f (room-after base s table i is p (g .keepable))
 
     pub keeping-more : (q : Pool) (table₁ : List ℕ) → table₁ ≡ sets table (2 * p .names) (pairs base (addsItem (p .names) i)) → PoolAfter (after (p .names) i) p q
         → Keeping base s S T is q table₁
@@ -181,13 +193,7 @@ module _ (base : ℕ) (s : List ℕ) (S : ℕ → Bool) (T : List ℕ) where
               ∙ ap (λ (x : List ℕ). sound (p .kept) x (p .stored)) e
               ∙ sound-sets (p .kept) (p .stored) table (2 * p .names) (pairs base ts) (omega (arith, k .kept-first))
               ∙ g .same-sound;
-          keepable =
-              record {
-                ended = k .ended;
-                in-store = k .in-store;
-                pairs-fit = rw (a .names-are) (omega (arith, k .pairs-fit, length-append ts us));
-                kept-first = omega (arith, k .kept-first, a .kept-stays, a .names-are);
-              };
+          keepable = keepable-next base s table i is p k q table₁ l a;
           table-to =
               ap (λ (x : ℕ). sets table₁ (2 * x) (pairs base (adds x is))) (a .names-are)
               ∙ ap (λ (x : List ℕ). sets x (2 * after (p .names) i) (pairs base us)) e
@@ -296,14 +302,12 @@ module _ (pooled base : ℕ) (s : List ℕ) (S : ℕ → Bool) (table R : List �
     unfolding adds count
     writing-placed =
         let k = g .writable .keepable in
-        let m : 2 * after (p .names) i ≤ length table = omega (arith, after-adds (p .names) i, length-append (addsItem (p .names) i) (adds (after (p .names) i) is), k .pairs-fit) in
-        (omega (arith, g .writable .rows-fit), item-placed base (length s) table (k .in-store) (p .names) i f m)
+        (omega (arith, g .writable .rows-fit), item-placed base (length s) table (k .in-store) (p .names) i f (room-after base s table i is p k))
 
     pub writing-more : (q : Pool) (rows₁ : List ℕ) → rows₁ ≡ sets rows to (itemWords pooled base table i) → PoolAfter (after (p .names) i) p q
         → Writing pooled base s S table R is q rows₁ (to + 8)
     unfolding adds count words
     writing-more q rows₁ e a =
-        let n = after-adds (p .names) i in
         let k = g .writable .keepable in
         let ws : List ℕ = itemWords pooled base table i in
         let l : length rows₁ ≡ length rows = ap length e ∙ length-sets rows to ws in
@@ -312,13 +316,7 @@ module _ (pooled base : ℕ) (s : List ℕ) (S : ℕ → Bool) (table R : List �
               ap (λ (x : ℕ). sound x table (q .stored)) (a .kept-stays) ∙ ap (λ (x : ℕ). sound (p .kept) table x) (a .stored-stays) ∙ g .same-sound;
           writable =
               record {
-                keepable =
-                    record {
-                      ended = k .ended;
-                      in-store = k .in-store;
-                      pairs-fit = rw (a .names-are) (omega (arith, k .pairs-fit, length-append (addsItem (p .names) i) (adds (after (p .names) i) is)));
-                      kept-first = omega (arith, k .kept-first, a .kept-stays, a .names-are);
-                    };
+                keepable = keepable-next base s table i is p k q table refl a;
                 rows-fit = omega (arith, g .writable .rows-fit);
               };
           rows-to =

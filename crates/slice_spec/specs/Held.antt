@@ -47,8 +47,8 @@ held-add document pool names table start len h ht hd =
           (λ p.
           let q = ltb-true i names p in
           let c : i < length pool = omega arith in
-          let e₀ : getD both (2 * i) 0 ≡ getD table (2 * i) 0 = getD-set-other first (suc (2 * names)) (2 * i) len 0 (λ z. omega arith) ∙ getD-set-other table (2 * names) (2 * i) start 0 (λ z. omega arith) in
-          let e₁ : getD both (2 * i + 1) 0 ≡ getD table (2 * i + 1) 0 = getD-set-other first (suc (2 * names)) (2 * i + 1) len 0 (λ z. omega arith) ∙ getD-set-other table (2 * names) (2 * i + 1) start 0 (λ z. omega arith) in
+          let e₀ : getD both (2 * i) 0 ≡ getD table (2 * i) 0 = Stores.getD-sets table (2 * names) (start ∷ len ∷ []) (2 * i) 0 (omega arith) in
+          let e₁ : getD both (2 * i + 1) 0 ≡ getD table (2 * i + 1) 0 = Stores.getD-sets table (2 * names) (start ∷ len ∷ []) (2 * i + 1) 0 (omega arith) in
           let old : Entry document table i (getD pool i []) = h .entry i q in
           rw (List·getD-append pool (b ∷ []) [] i c) (record { inside = rw (e₀, e₁) (old .inside); reads-as = rw (e₀, e₁) (old .reads-as) }))
           (λ p.

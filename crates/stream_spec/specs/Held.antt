@@ -15,7 +15,7 @@ use Rattle.grammar.specs.Choice.{byTest}
 use Rattle.grammar.specs.Laws.{part-append}
 use Rattle.grammar.specs.Added.{these, AllIn, bytesAt-length}
 use Rattle.grammar.specs.Said.{Finds}
-use Rattle.grammar.specs.Stores.{sets-append}
+use Rattle.grammar.specs.Stores.{getD-sets, sets-append}
 use Rattle.grammar.specs.Scan.{lengths, copiedPairs, joined}
 
 pub poolBytes-append : (a b : Pool) → poolBytes (a ++ b) ≡ poolBytes a + poolBytes b
@@ -65,8 +65,8 @@ held-add pool names bytes table store b h ht hs =
           (λ p.
           let q = ltb-true i names p in
           let c : i < length pool = omega arith in
-          let e₀ : getD table′ (2 * i) 0 ≡ getD table (2 * i) 0 = getD-set-other (set table (2 * names) bytes) (suc (2 * names)) (2 * i) (length b) 0 (λ z. omega arith) ∙ getD-set-other table (2 * names) (2 * i) bytes 0 (λ z. omega arith) in
-          let e₁ : getD table′ (2 * i + 1) 0 ≡ getD table (2 * i + 1) 0 = getD-set-other (set table (2 * names) bytes) (suc (2 * names)) (2 * i + 1) (length b) 0 (λ z. omega arith) ∙ getD-set-other table (2 * names) (2 * i + 1) bytes 0 (λ z. omega arith) in
+          let e₀ : getD table′ (2 * i) 0 ≡ getD table (2 * i) 0 = getD-sets table (2 * names) (bytes ∷ length b ∷ []) (2 * i) 0 (omega arith) in
+          let e₁ : getD table′ (2 * i + 1) 0 ≡ getD table (2 * i + 1) 0 = getD-sets table (2 * names) (bytes ∷ length b ∷ []) (2 * i + 1) 0 (omega arith) in
           let old : Entry bytes table store i (getD pool i []) = h .entry i q in
           rw (List·getD-append pool (b ∷ []) [] i c)
           (record { inside = rw (e₀, e₁) (omega arith); reads-as = rw (e₀, e₁) (sets-before store b bytes hs _ _ (old .inside) ∙ old .reads-as) }))

@@ -106,6 +106,10 @@ module _ (first second output table : List ℕ) (kept : ℕ) where
     fine : (stringFault n ≡ none) × (none-bad n ≡ false)
     fine = passes-by (stringFault n) (none-bad n) p
 
+    -- the name is noted now
+    new-noted : Unnoted first second notes′ n → ⊥
+    new-noted v = v (count first second notes) (omega (arith, count-more first second notes (t .linked .whole) source start len index link)) (name-new first second notes (t .linked .whole) source start len index link)
+
     pub takes-kept : find pool n ≡ some index → Takes pool n 2 (length pool) notes notes′ heads′
     takes-kept f =
         record {
@@ -118,9 +122,6 @@ module _ (first second output table : List ℕ) (kept : ℕ) where
           };
           settled = λ v. absurd (new-noted v);
         }
-      where
-        new-noted : Unnoted first second notes′ n → ⊥
-        new-noted v = v (count first second notes) (omega (arith, count-more first second notes (t .linked .whole) source start len index link)) (name-new first second notes (t .linked .whole) source start len index link)
 
     pub takes-new : find pool n ≡ none → index ≡ length pool → length pool < most → Takes pool n (4 + length n) (length pool + 1) notes notes′ heads′
     takes-new f e m =
@@ -134,9 +135,6 @@ module _ (first second output table : List ℕ) (kept : ℕ) where
           };
           settled = λ v. absurd (new-noted v);
         }
-      where
-        new-noted : Unnoted first second notes′ n → ⊥
-        new-noted v = v (count first second notes) (omega (arith, count-more first second notes (t .linked .whole) source start len index link)) (name-new first second notes (t .linked .whole) source start len index link)
 
 -- ---- the same with the notes in the slice where they are stored
 

@@ -1,4 +1,3 @@
-use Rattle.slice_spec.specs.Queries.{all-attributes-of}
 use Rattle.parser.proofs.Cases.{asks-refused, asks-goes}
 use borrow.Author.Needs.{needs}
 use Rattle.parser.proofs.all_attributes_of.Statement.{statement}
@@ -8,9 +7,7 @@ unasked-requires : tie.Need-unasked-requires
 unasked-requires c κs = search needs
 
 returns : tie.Need-returns
-returns c =
-    let a = c .before .before .before .before .before .before .args in
-    asks-refused (all-attributes-of (a .element .now)) (a .document) (a .at) (a .names) (a .number) (a .detail) (a .pool .now) (a .rows .now) _ (c .before .if1 .taken) (c .unasked .ensures)
+returns c = asks-refused _ _ _ _ _ _ _ _ _ (c .before .if1 .taken) (c .unasked .ensures)
 
 all-attributes-of-requires : tie.Need-all-attributes-of-requires
 all-attributes-of-requires c κs = search needs
@@ -26,9 +23,9 @@ same-length-2 c = search needs
 
 returns-2 : tie.Need-returns-2
 returns-2 c =
-    let a = c .before .before .before .before .before .before .before .before .before .before .before .before .before .args in
-    asks-goes (all-attributes-of (a .element .now)) (a .document) (a .at) (a .names) (a .number) (a .detail) (a .pool .now) (a .rows .now) _ _ (c .before .before .before .before .before .all-attributes-of .result) _ (c .before .before .before .before .before .before .before .before .if1 .left)
-    (c .apart .ensures) (c .before .before .before .before .before .all-attributes-of .ensures)
+    let q = c .before .before .before .before .before .all-attributes-of in
+    asks-goes _ _ _ _ _ _ _ _ _ _ (q .result) _ (c .before .before .before .before .before .before .before .before .if1 .left)
+    (c .apart .ensures) (q .ensures)
 
 pub all-attributes-of-spec : {M : Type 1} → statement M
 all-attributes-of-spec =

@@ -1,4 +1,3 @@
-use Rattle.slice_spec.specs.Queries.{find-all-attributes}
 use Rattle.parser.proofs.Cases.{asks-refused, asks-goes}
 use borrow.Author.Needs.{needs}
 use Rattle.parser.proofs.find_all_attributes.Statement.{statement}
@@ -8,9 +7,7 @@ unasked-requires : tie.Need-unasked-requires
 unasked-requires c κs = search needs
 
 returns : tie.Need-returns
-returns c =
-    let a = c .before .before .before .before .before .before .before .args in
-    asks-refused (find-all-attributes (a .element .now) (a .name .now)) (a .document) (a .at) (a .names) (a .number) (a .detail) (a .pool .now) (a .rows .now) _ (c .before .if1 .taken) (c .unasked .ensures)
+returns c = asks-refused _ _ _ _ _ _ _ _ _ (c .before .if1 .taken) (c .unasked .ensures)
 
 find-all-attributes-requires : tie.Need-find-all-attributes-requires
 find-all-attributes-requires c κs = search needs
@@ -26,9 +23,9 @@ same-length-2 c = search needs
 
 returns-2 : tie.Need-returns-2
 returns-2 c =
-    let a = c .before .before .before .before .before .before .before .before .before .before .before .before .before .before .args in
-    asks-goes (find-all-attributes (a .element .now) (a .name .now)) (a .document) (a .at) (a .names) (a .number) (a .detail) (a .pool .now) (a .rows .now) _ _ (c .before .before .before .before .before .find-all-attributes .result) _ (c .before .before .before .before .before .before .before .before .if1 .left)
-    (c .apart .ensures) (c .before .before .before .before .before .find-all-attributes .ensures)
+    let q = c .before .before .before .before .before .find-all-attributes in
+    asks-goes _ _ _ _ _ _ _ _ _ _ (q .result) _ (c .before .before .before .before .before .before .before .before .if1 .left)
+    (c .apart .ensures) (q .ensures)
 
 pub find-all-attributes-spec : {M : Type 1} → statement M
 find-all-attributes-spec =

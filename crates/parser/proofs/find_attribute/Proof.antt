@@ -1,4 +1,3 @@
-use Rattle.slice_spec.specs.Queries.{find-attribute}
 use Rattle.parser.proofs.Cases.{asks-refused, asks-goes}
 use borrow.Author.Needs.{needs}
 use Rattle.parser.proofs.find_attribute.Statement.{statement}
@@ -8,9 +7,7 @@ unasked-requires : tie.Need-unasked-requires
 unasked-requires c κs = search needs
 
 returns : tie.Need-returns
-returns c =
-    let a = c .before .before .before .before .before .before .before .args in
-    asks-refused (find-attribute (a .element .now) (a .name .now)) (a .document) (a .at) (a .names) (a .number) (a .detail) (a .pool .now) (a .rows .now) _ (c .before .if1 .taken) (c .unasked .ensures)
+returns c = asks-refused _ _ _ _ _ _ _ _ _ (c .before .if1 .taken) (c .unasked .ensures)
 
 find-attribute-requires : tie.Need-find-attribute-requires
 find-attribute-requires c κs = search needs
@@ -26,9 +23,9 @@ same-length-2 c = search needs
 
 returns-2 : tie.Need-returns-2
 returns-2 c =
-    let a = c .before .before .before .before .before .before .before .before .before .before .before .before .before .before .args in
-    asks-goes (find-attribute (a .element .now) (a .name .now)) (a .document) (a .at) (a .names) (a .number) (a .detail) (a .pool .now) (a .rows .now) _ _ (c .before .before .before .before .before .find-attribute .result) _ (c .before .before .before .before .before .before .before .before .if1 .left)
-    (c .apart .ensures) (c .before .before .before .before .before .find-attribute .ensures)
+    let q = c .before .before .before .before .before .find-attribute in
+    asks-goes _ _ _ _ _ _ _ _ _ _ (q .result) _ (c .before .before .before .before .before .before .before .before .if1 .left)
+    (c .apart .ensures) (q .ensures)
 
 pub find-attribute-spec : {M : Type 1} → statement M
 find-attribute-spec =

@@ -43,7 +43,7 @@ use Rattle.slice_spec.specs.Parser.{new}
 use Rattle.parser.specs.Answers.{held, openedOf}
 use Rattle.parser.specs.declared.AbxParser.{AbxParser}
 use Rattle.parser.specs.declared.Opened.{Opened}
-use Rattle.parser.proofs.Held.{docVal, Fit, doc-in}
+use Rattle.parser.proofs.Held.{sl, Fit, doc-in}
 use Rattle.parser.proofs.AbxParser.Laws as T′
 use Rattle.parser.proofs.Opened as R
 use Rattle.parser.proofs.Opened.Laws as R′
@@ -67,10 +67,10 @@ Callee 𝓤 H A mem run = tripleOf 𝓤 H A callee.signature (callee.spec 𝓤 H
 module _ {M : Type 1} (𝓤 : URA M) (H : Heap 𝓤) (A : Atoms 𝓤) (W : Given 𝓤 H A) (mem : Memory → SProp 𝓤) (run : Routine
     → Fun 𝓤) (κ κ′ : Lft) (q q′ : Share) (s pool : RefT (List ℕ)) where
   abbrev v : Val
-  v = docVal s
+  v = sl s
 
   abbrev v′ : Val
-  v′ = docVal pool
+  v′ = sl pool
 
   abbrev Arg : Type 0
   Arg = RefT (List ℕ) × (RefT (List ℕ) × Unit {0})

@@ -41,7 +41,7 @@ use denote.Triple.Walked.{Stays, stay-dropped, walkOf, goes-dropped, Walks, ends
 use denote.Exit.{yes}
 use Rattle.event.specs.Span.{text, textAt}
 use Rattle.parser.specs.declared.AbxParser.{AbxParser}
-use Rattle.parser.proofs.Held.{docVal, doc-out}
+use Rattle.parser.proofs.Held.{sl, doc-out}
 use Rattle.parser.proofs.AbxParser as T
 use Rattle.parser.proofs.AbxParser.Laws as T′
 use Rattle.event.proofs.text as callee
@@ -88,7 +88,7 @@ module _ {M : Type 1} (𝓤 : URA M) (H : Heap 𝓤) (A : Atoms 𝓤) (W : Given
   mach = T′.lowered d
 
   abbrev v : Val
-  v = docVal (d .document)
+  v = sl (d .document)
 
   abbrev Arg : Type 0
   Arg = AbxParser × (ℕ × (ℕ × (ℕ × Unit {0})))
