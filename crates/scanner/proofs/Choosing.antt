@@ -15,11 +15,10 @@ use Rattle.event.specs.Span.{part, span, text, same}
 use Rattle.event.specs.Row.{hasName, rowAt}
 use Rattle.grammar.specs.Reader.{got}
 use Rattle.grammar.specs.Grammar.{Item, Items, item, whole, after, first, event}
-use Rattle.grammar.specs.Scan.{sound, addsItem, adds, nameWords, itemWords}
+use Rattle.grammar.specs.Scan.{sound, nameWords, itemWords}
 use Rattle.grammar.specs.Choice.{byTest, cond-by}
 use Rattle.grammar.specs.Said.{item-length}
 use Rattle.grammar.specs.Laws.{ItemFits}
-use Rattle.grammar.specs.Added.{after-adds}
 use Rattle.grammar.specs.Stores.{sets-append}
 use Rattle.slice_spec.specs.Queries.{Words, named, isElement, concat, kindOf}
 use Rattle.scanner.specs.declared.Pool.{Pool}

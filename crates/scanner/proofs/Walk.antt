@@ -13,9 +13,8 @@ use Rattle.wire.specs.Token as Token
 use Rattle.wire.specs.Token.{command}
 use Rattle.event.specs.declared.Shape.{Shape}
 use Rattle.grammar.specs.Reader.{Read, got, short, refused}
-use Rattle.grammar.specs.Grammar.{Span, Ref, new, known, Value, Item, Items, item, whole, lacks, stops, most, counted, countedName, countedValue, after, attribute, first, event}
-use Rattle.grammar.specs.Document.{typeOf}
-use Rattle.grammar.specs.Scan.{sound, addsItem, adds, pairs, count, spanWords, refWords, nameWords, valueWords, itemWords, words}
+use Rattle.grammar.specs.Grammar.{Span, Ref, new, known, Value, Item, Items, item, whole, most, counted, countedName, countedValue, after, attribute, first, event}
+use Rattle.grammar.specs.Scan.{sound, addsItem, adds, pairs, count, itemWords, words}
 use Rattle.grammar.specs.Choice.{byTest}
 use Rattle.grammar.specs.Said.{item-length}
 use Rattle.grammar.specs.Laws.{RefFits, NameFits, ValueFits, ItemFits, good-attribute, good-first}

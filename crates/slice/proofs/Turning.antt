@@ -8,8 +8,8 @@ use borrow.Author.Tests.{le-ltb, ltb-false, eq-eqb}
 use lib.Dec.{ltb, eqb}
 use lib.ListN.{length, drop, length-drop}
 use lib.Seq.{length-sets}
-use Rattle.grammar.specs.Grammar.{Span, Items, item, whole, lacks, stops, after}
-use Rattle.grammar.specs.Laws.{Agree, agree-event}
+use Rattle.grammar.specs.Grammar.{Span, Items}
+use Rattle.grammar.specs.Laws.{agree-event}
 use Rattle.grammar.specs.Outcomes.{ends-within}
 use Rattle.grammar.specs.Scan.{sound, pairs, Outcome, complete, incomplete, bad, outcome}
 use Rattle.grammar.specs.Choice.{byTest, neither}

@@ -6,8 +6,6 @@ use scanner::Stepped;
 use wire::Header;
 use wire::Refusal;
 ghost use mathlib.Core.Path.{_≡_};
-ghost use Prim.Native.Nat.{_*_, _≤_};
-ghost use lib.ListN.{length};
 ghost use Rattle.slice_spec.specs.Slice.{create, nextFrom, next};
 ghost use Rattle.slice_spec.specs.Bounds.{Fits};
 ghost use Rattle.slice.specs.Answers.{placeOf, createdOf, nextOf};

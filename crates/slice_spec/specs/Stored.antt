@@ -8,7 +8,7 @@ use native.Mathlib.Omega.{arith}
 use lib.ListN.{length, take, drop, length-append, List·getD-append}
 use lib.Seq.{sets-eq, length-take-le}
 use Rattle.event.specs.declared.Shape.{Shape}
-use Rattle.grammar.specs.Grammar.{Span, Ref, new, known, Value, Item, Items, item, whole, lacks, stops, countedName, after}
+use Rattle.grammar.specs.Grammar.{Span, Ref, new, known, Value, Items, item, whole, lacks, stops, countedName, after}
 use Rattle.grammar.specs.Scan.{sound, pairs, addsName, addsValue, addsItem, adds, spanWords, refWords, nameWords, valueWords, itemWords, words}
 use Rattle.grammar.specs.Added.{countedName-adds, countedValue-adds, after-adds}
 use Rattle.grammar.specs.Laws.{RefFits, NameFits, ValueFits, Agree, agree-event}

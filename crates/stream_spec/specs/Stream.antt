@@ -1,6 +1,6 @@
 -- The chunk reader's calls, as functions of the state and of what is lent: document 01, "Chunk reader".
 use mathlib.Core.Bool.{Bool, true, false, _&&_, _||_, cond}
-use mathlib.Core.List.{List, [], _∷_, _++_}
+use mathlib.Core.List.{List, [], _++_}
 use Prim.Native.Nat.{ℕ, _+_, _*_, _-_, _/_, _%_, min}
 use lib.ListN.{length, take, drop}
 use lib.Seq.{sets, slice}

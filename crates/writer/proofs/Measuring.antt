@@ -2,8 +2,8 @@
 use mathlib.Core.Bool.{Bool, true, false}
 use mathlib.Core.Option.{Option, none, some}
 use mathlib.Core.List.{List, [], _∷_, _++_, append-nil, append-assoc}
-use mathlib.Core.Path.{_≡_, refl, sym, ap, _∙_}
-use Prim.Native.Nat.{ℕ, zero, suc, _+_, _*_, _%_, _≤_, _<_}
+use mathlib.Core.Path.{_≡_, sym, ap, _∙_}
+use Prim.Native.Nat.{ℕ, _+_, _*_, _%_, _≤_, _<_}
 use native.Mathlib.Nat.{sub-zero}
 use native.Mathlib.Omega.{arith}
 use lib.ListN.{length, take, drop}
@@ -12,7 +12,7 @@ use Rattle.grammar.specs.Grammar.{most}
 use Rattle.grammar.specs.Document.{Pool}
 use Rattle.writer_spec.specs.Encode.{rowBytes, keepRow, keepRows}
 use Rattle.writer_spec.specs.Laws.{pool-count}
-use Rattle.writer_spec.specs.Writer.{Lent, poolAt, rowRefusal, roomRefusal, ends, rowsRefusal, rowsIn}
+use Rattle.writer_spec.specs.Writer.{Lent, rowRefusal, roomRefusal, ends, rowsRefusal, rowsIn}
 use Rattle.writer_spec.specs.Wrote.{keepRows-append}
 use Rattle.writer_spec.specs.Held.{rows-bounded}
 use Rattle.writer.specs.Answers.{lentOf}

@@ -25,7 +25,7 @@ same-length-2 : tie.Need-same-length-2
 same-length-2 c = search needs
 
 returns : tie.Need-returns
-returns c = search needs
+returns c = c .before .before .before .before .before .before .before .write-noted .ensures
 
 pub write-many-spec : {M : Type 1} → statement M
 write-many-spec =
