@@ -48,7 +48,7 @@ count-by-requires c κs =
     (omega arith, (p .0, w))
 
 returns-2 : tie.Need-returns-2
-returns-2 c = search needs
+returns-2 c = c .before .count-by .ensures
 
 pub count-taken-spec : {M : Type 1} → statement M
 count-taken-spec =
