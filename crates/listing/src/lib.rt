@@ -258,7 +258,7 @@ pub fn end_line(events: usize, out: &mut [u8]) -> Lined
     if out.len() < len {
         return Lined::Refused(too_short());
     }
-    bytes::copy(b"end ", out, 0);
+    byte_copy::copy(b"end ", out, 0);
     let end = put_decimal(events, out, 4);
     out[end] = b'\n';
     Lined::Line(len)
@@ -274,7 +274,7 @@ pub fn refused_line(refusal: Refusal, out: &mut [u8]) -> Lined
     if out.len() < len {
         return Lined::Refused(too_short());
     }
-    bytes::copy(b"refused ", out, 0);
+    byte_copy::copy(b"refused ", out, 0);
     let after = put_decimal(number, out, 8);
     out[after] = b' ';
     let end = put_decimal(detail, out, after + 1);

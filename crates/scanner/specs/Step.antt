@@ -29,7 +29,7 @@ pub record Left : Type 0 where
   pub rows : List ℕ
 
 abbrev pub replyOf : Stepped → Reply
-replyOf (Stepped.Event rows len added bytes) = gives rows len added bytes
+replyOf (Stepped.Event bytes rows len added) = gives rows len added bytes
 replyOf Stepped.Incomplete = needMore
 replyOf (Stepped.Refused r) = refused (r .number) (r .detail)
 

@@ -128,7 +128,7 @@ module _ (r : Stream) (l : Lent) (from : ℕ) where
       sums-by n len added bytes incomplete q p = let z : _≡_ {A = ℕ} 0 1 = cc p in absurd (omega arith)
       sums-by n len added bytes (bad k d) q p = let z : _≡_ {A = ℕ} 0 1 = cc p in absurd (omega arith)
 
-      pub sums : (t b w : List ℕ) (x : Stepped) (n len added bytes : ℕ) → stepOf t b w x ≡ stepped → x ≡ Stepped.Event n len added bytes
+      pub sums : (t b w : List ℕ) (x : Stepped) (n len added bytes : ℕ) → stepOf t b w x ≡ stepped → x ≡ Stepped.Event bytes n len added
           → Sums r from len added bytes
       sums t b w x n len added bytes e d =
           sums-by n len added bytes (outcome (r .finished) items) refl

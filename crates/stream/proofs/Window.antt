@@ -9,7 +9,7 @@ use lib.ListN.{length, take, drop, getD, set, length-drop, length-append, take-a
 use lib.Seq.{slice, sets, sets-eq, paste, take-all, take-at, drop-at, drop-drop, take-add, getD-drop, getD-append-add, length-slice, length-take-le, drop-append-add}
 use lib.Dec.{ltb}
 use borrow.Author.Tests.{ltb-true, ltb-false}
-use Rattle.bytes.specs.Sets.{sets-take}
+use Rattle.byte_copy.specs.Sets.{sets-take}
 use Rattle.grammar.specs.Choice.{byTest}
 
 -- a part of a slice, as the code lends it

@@ -161,7 +161,7 @@ fn fill(window: &mut [u8], start: usize, end: usize, chunk: &[u8]) -> usize
     let waiting = end - start;
     let fitting = least(chunk.len(), window.len() - waiting);
     compact(window, start, end);
-    bytes::copy(chunk, window, waiting);
+    byte_copy::copy(chunk, window, waiting);
     fitting
 }
 

@@ -1,56 +1,58 @@
--- A part of a text: where its octets, and those after it, are at most those of the tops, it is ASCII.
+-- A part of a text, told by a look at 96 octets, of which its own are ASCII.
 -- Assumes nothing.
 use Prim.Native.Nat.{ℕ, zero, suc, _+_, _-_, _≤_, _<_}
 use native.Mathlib.Omega.{arith}
 use mathlib.Core.Path.{_≡_, refl}
-use mathlib.Core.Bool.{Bool, true, _&&_, and-eq-true-iff}
+use mathlib.Core.Bool.{Bool, true, _&&_, _||_, and-eq-true-iff, or-false}
 use mathlib.Core.List.{List, [], _∷_}
 use lib.Dec.{leb, ltb}
-use borrow.Author.Tests.{leb-true, ltb-true, ltb-false}
+use borrow.Author.Tests.{lt-leb, ltb-true, ltb-false}
 use lib.ListN.{length, getD, take, drop, length-drop, drop-of-length-le}
 use lib.Seq.{getD-drop, take-all}
 use Rattle.utf8.specs.Utf8.{octets, wellFormed}
-use Rattle.utf8.specs.Reading.{Below}
+use Rattle.utf8.specs.Reading.{Low}
 use Rattle.utf8.proofs.Ascii.{whole}
 use Rattle.utf8.proofs.Tests.{split}
 
-module _ (s : List ℕ) (i : ℕ) (t : List ℕ) (j : ℕ) where
-  pub below-none : Below s i t j 0
-  below-none = record { at-most = λ k h. absurd (omega arith) }
+module _ (s : List ℕ) (i n : ℕ) (t : List ℕ) where
+  pub low-none : Low s i n t 0
+  low-none = record { low = λ k h. absurd (omega arith) }
 
-  pub below-more : (n : ℕ) (all : Bool) → (all ≡ true → Below s i t j n) → (all && leb (getD s (i + n) 0) (getD t (j + n) 0)) ≡ true → Below s i t j (n + 1)
-  below-more n all b e =
+  pub low-more : (m : ℕ) (all : Bool) → (all ≡ true → Low s i n t m) → (all && (ltb (getD s (i + m) 0) 0x80 || leb n (getD t m 0))) ≡ true
+      → Low s i n t (m + 1)
+  low-more m all b e =
       let f = and-eq-true-iff all _ .0 e in
       record {
-        at-most = λ k h.
-            split (λ (u : Bool). getD s (i + k) 0 ≤ getD t (j + k) 0) (ltb k n) (λ u. b (f .0) .at-most k (ltb-true k n u))
-            (λ u. let q : k ≡ n = omega (arith, ltb-false k n u) in rw q (leb-true _ _ (f .1)));
+        low = λ k h under.
+            split (λ (u : Bool). getD s (i + k) 0 < 0x80) (ltb k m) (λ u. b (f .0) .low k (ltb-true k m u) under)
+            (λ u. let q : k ≡ m = omega (arith, ltb-false k m u) in here q (f .1) under);
       }
+    where
+      here : {k : ℕ} → k ≡ m → (ltb (getD s (i + m) 0) 0x80 || leb n (getD t m 0)) ≡ true → getD t k 0 < n → getD s (i + k) 0 < 0x80
+      here {k} q e under =
+          let under′ : getD t m 0 < n = rw q at under in
+          rw q (ltb-true _ _ (rw (lt-leb n (getD t m 0) under′, or-false) at e))
 
--- so many times the octet x, and then l
-unfoldable pub filled : ℕ → ℕ → List ℕ → List ℕ
-filled zero x l = l
-filled (suc n) x l = x ∷ filled n x l
+-- so many numbers from x on
+unfoldable pub numbers : ℕ → ℕ → List ℕ
+numbers zero x = []
+numbers (suc n) x = x ∷ numbers n (suc x)
 
-filled-at : (n x : ℕ) (l : List ℕ) (k : ℕ) → k < n → getD (filled n x l) k 0 ≡ x
-unfolding filled
-filled-at zero x l k h = absurd (omega arith)
-filled-at (suc n) x l zero h = refl
-filled-at (suc n) x l (suc k) h = filled-at n x l k (omega arith)
+number-at : (n x k : ℕ) → k < n → getD (numbers n x) k 0 ≡ x + k
+unfolding numbers
+number-at zero x k h = absurd (omega arith)
+number-at (suc n) x zero h = omega arith
+number-at (suc n) x (suc k) h = let e = number-at n (suc x) k (omega arith) in omega (arith, e)
 
--- as high as ASCII, and then as high as an octet can be
-unfoldable pub tops : List ℕ
-tops = filled 96 0x7F (filled 96 0xFF [])
-
--- n of the octets from i on are looked at where the tops are low
-module _ (s : List ℕ) (i n : ℕ) (h : n ≤ 96) (l : i + 96 ≤ length s) (b : Below s i tops (96 - n) 96) where
-  part-low : (k : ℕ) → k < n → getD s (i + k) 0 < 0x80
-  unfolding tops
-  part-low k m = omega (arith, b .at-most k (omega arith), filled-at 96 0x7F (filled 96 0xFF []) (96 - n + k) (omega arith))
-
+-- the first n of the octets from i on are looked at
+module _ (s : List ℕ) (i n : ℕ) (h : n ≤ 96) (l : i + 96 ≤ length s) (b : Low s i n (numbers 96 0) 96) where
   pub part-whole : wellFormed (take n (drop i s)) ≡ true
   part-whole =
-      whole (drop i s) n (record { from = omega arith; inside = rw length-drop (omega arith); low = λ k p q. rw getD-drop (part-low k q) })
+      whole (drop i s) n (record {
+        from = omega arith;
+        inside = rw length-drop (omega arith);
+        low = λ k p q. rw getD-drop (b .low k (omega arith) (omega (arith, number-at 96 0 k (omega arith))));
+      })
 
 -- where no octet is left, and where no more than n are
 none-left : (n : ℕ) → wellFormed (take n []) ≡ true

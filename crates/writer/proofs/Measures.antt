@@ -19,7 +19,7 @@ use Rattle.grammar.specs.Choice.{byTest, cond-by}
 use Rattle.writer_spec.specs.Encode.{be16, be32, find, nameBy, nameBytes, valueBytes, rowBytes, keepRow}
 use Rattle.writer_spec.specs.Faults.{stringFault, valueFault}
 use Rattle.writer_spec.specs.Writer.{Refusal, _before_, refuseIf, rowRefusal}
-use Rattle.bytes.specs.Sets.{take-sets}
+use Rattle.byte_copy.specs.Sets.{take-sets}
 use Rattle.writer.specs.Answers.{takes, stops, measured, placed, barred, placedBy}
 use Rattle.writer.specs.Notes.{slotOf, noteName, noteIndex, count, Unnoted, LookSays}
 use Rattle.writer.specs.declared.Look.the-variants as Look

@@ -785,7 +785,7 @@ fn put_sized(output: &mut [u8], at: usize, s: &[u8]) -> usize
 {
     put_u16(output, at, s.len());
     let start = at + 2;
-    bytes::copy(s, output, start);
+    byte_copy::copy(s, output, start);
     start + s.len()
 }
 

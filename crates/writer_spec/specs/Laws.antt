@@ -9,7 +9,7 @@ use borrow.Author.Tests.{ltb-false, le-ltb}
 use lib.ListN.{length, getD, take, drop, length-append}
 use lib.Seq.{sets-eq, length-sets}
 use lib.Dec.{ltb, eqb}
-use Rattle.bytes.specs.Sets.{take-sets}
+use Rattle.byte_copy.specs.Sets.{take-sets}
 use Rattle.wire.specs.Header.{magicBytes}
 use Rattle.wire.specs.Refusal.{notRows}
 use Rattle.event.specs.Row.{Row, Event, rowAt, rowsAt}

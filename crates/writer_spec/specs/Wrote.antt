@@ -6,7 +6,7 @@ use Prim.Native.Nat.{ℕ, _+_, _*_, _≤_}
 use native.Mathlib.Nat.{add-zero, add-assoc}
 use native.Mathlib.Omega.{arith}
 use lib.ListN.{length, take, drop, length-append, take-append-drop}
-use Rattle.bytes.specs.Sets.{take-sets}
+use Rattle.byte_copy.specs.Sets.{take-sets}
 use Rattle.wire.specs.Header.{magicBytes}
 use Rattle.event.specs.Row.{Row, Event}
 use Rattle.grammar.specs.Document.{Pool}

@@ -15,20 +15,17 @@ returns c = declined refl refl
 returns-2 : tie.Need-returns-2
 returns-2 c = declined refl refl
 
-slice-aggregate-put-words : tie.Need-slice-aggregate-put-words
-slice-aggregate-put-words c = quick-long _ _ _ _ _ _ _ _ (c .before .before .before .before .before .before .quick .ensures (omega (arith, c .before .before .before .before .if1 .left))) refl
+slice-aggregate-put-rows : tie.Need-slice-aggregate-put-rows
+slice-aggregate-put-rows c = quick-long _ _ _ _ _ _ _ _ (c .before .before .before .before .before .before .quick .ensures (omega (arith, c .before .before .before .before .if1 .left))) refl
 
-mul-put-words : tie.Need-mul-put-words
-mul-put-words c = search needs
-
-put-words-requires : tie.Need-put-words-requires
-put-words-requires c κs = (quick-fits _ _ _ _ _ _ _ _ (c .before .before .before .before .before .before .before .quick .ensures (omega (arith, c .before .before .before .before .before .if1 .left))) refl, omega (arith, c .before .before .before .if2 .left))
+put-rows-requires : tie.Need-put-rows-requires
+put-rows-requires c κs = (quick-fits _ _ _ _ _ _ _ _ (c .before .before .before .before .before .before .quick .ensures (omega (arith, c .before .before .before .before .if1 .left))) refl, omega (arith, c .before .before .if2 .left))
 
 same-length : tie.Need-same-length
 same-length c = search needs
 
 returns-3 : tie.Need-returns-3
-returns-3 c = quick-taken _ _ _ _ _ _ _ _ (c .before .before .before .before .before .before .before .before .before .before .quick .ensures (omega (arith, c .before .before .before .before .before .before .before .before .if1 .left))) refl _ _ (omega (arith, c .before .before .before .before .before .before .before .before .if1 .left)) (c .before .before .before .before .before .before .if2 .left) (c .before .before .put-words .ensures)
+returns-3 c = quick-taken _ _ _ _ _ _ _ _ (c .before .before .before .before .before .before .before .before .before .quick .ensures (omega (arith, c .before .before .before .before .before .before .before .if1 .left))) refl _ _ (omega (arith, c .before .before .before .before .before .before .before .if1 .left)) (c .before .before .before .before .before .if2 .left) (c .before .before .put-rows .ensures)
 
 pub read-quickly-spec : {M : Type 1} → statement M
 read-quickly-spec =
@@ -37,8 +34,7 @@ read-quickly-spec =
     quick-requires
     returns
     returns-2
-    slice-aggregate-put-words
-    mul-put-words
-    put-words-requires
+    slice-aggregate-put-rows
+    put-rows-requires
     same-length
     returns-3)

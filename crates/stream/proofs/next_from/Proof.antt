@@ -32,8 +32,8 @@ part-step-end c = search needs
 step-requires : tie.Need-step-requires
 step-requires c κs = search needs
 
-enum-known-rows : tie.Need-enum-known-rows
-enum-known-rows c = search needs
+enum-known-more : tie.Need-enum-known-more
+enum-known-more c = search needs
 
 advanced-requires : tie.Need-advanced-requires
 advanced-requires c κs =
@@ -41,7 +41,7 @@ advanced-requires c κs =
     let p = c .before .before .before .before .before .before .before .before .before .before .before .before .before .before .before .before .before .before .before .before .pre in
     let r = streamOf (a .stream) in
     let l = lend (a .window .now) (a .table .now) (a .store .now) in
-    sums r l (a .from) (a .rows .now) (p .0) (p .1) _ _ _ _ _ _ _ _ (c .before .before .before .before .before .before .before .before .before .step .ensures) (c .before .rows2 .given .1)
+    sums r l (a .from) (a .rows .now) (p .0) (p .1) _ _ _ _ _ _ _ _ (c .before .before .before .before .before .before .before .before .before .step .ensures) (c .before .more .given .1)
 
 enum-told : tie.Need-enum-told
 enum-told c = search needs
@@ -92,7 +92,7 @@ returns-3 c =
     let r = streamOf (a .stream) in
     let l = lend (a .window .now) (a .table .now) (a .store .now) in
     whole-there r l (a .from) _ _ _ _ _ _ _ (c .advanced .ensures)
-    ∙ goes r l (a .from) (a .rows .now) (p .0) (p .1) _ _ _ _ _ _ (c .before .before .before .before .before .before .before .before .before .before .step .ensures) (c .before .before .rows2 .given .1) (c .before .before .before .before .before .before .before .before .before .before .before .before .before .before .before .before .at-end .ensures) (c .before .before .before .before .before .before .before .before .before .before .before .before .before .before .before .if1 .left)
+    ∙ goes r l (a .from) (a .rows .now) (p .0) (p .1) _ _ _ _ _ _ (c .before .before .before .before .before .before .before .before .before .before .step .ensures) (c .before .before .more .given .1) (c .before .before .before .before .before .before .before .before .before .before .before .before .before .before .before .before .at-end .ensures) (c .before .before .before .before .before .before .before .before .before .before .before .before .before .before .before .if1 .left)
 
 same-length-7 : tie.Need-same-length-7
 same-length-7 c = search needs
@@ -140,7 +140,7 @@ next-from-spec =
     part-step-start
     part-step-end
     step-requires
-    enum-known-rows
+    enum-known-more
     advanced-requires
     enum-told
     sub-if2

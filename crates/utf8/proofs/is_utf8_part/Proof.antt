@@ -6,7 +6,7 @@ use native.Mathlib.Omega.{arith}
 use mathlib.Core.Path.{sym, ap, _∙_}
 use lib.ListN.{take, drop}
 use Rattle.utf8.specs.Utf8.{wellFormed}
-use Rattle.utf8.proofs.Part.{filled, tops, part-whole, part-empty, part-all}
+use Rattle.utf8.proofs.Part.{numbers, part-whole, part-empty, part-all}
 use borrow.Author.Needs.{needs}
 use Rattle.utf8.proofs.is_utf8_part.Statement.{statement}
 use Rattle.utf8.proofs.is_utf8_part.Tie as tie
@@ -19,14 +19,17 @@ returns c =
 sub-left : tie.Need-sub-left
 sub-left c = search needs
 
-is-below-requires : tie.Need-is-below-requires
-is-below-requires c κs = search needs
+cast-is-low : tie.Need-cast-is-low
+cast-is-low c = search needs
+
+is-low-requires : tie.Need-is-low-requires
+is-low-requires c κs = search needs
 
 returns-2 : tie.Need-returns-2
-unfolding tops filled
+unfolding numbers
 returns-2 c =
     let a = c .before .before .before .before .before .before .before .args in
-    sym (part-whole (a .s .now) (a .i) (a .n) (omega arith) (omega arith) (c .before .is-below .ensures (c .if4 .taken)))
+    sym (part-whole (a .s .now) (a .i) (a .n) (omega arith) (omega arith) (c .before .is-low .ensures (c .if4 .taken)))
 
 add-end : tie.Need-add-end
 add-end c = search needs
@@ -71,7 +74,8 @@ is-utf8-part-spec =
     (tie.spec
     returns
     sub-left
-    is-below-requires
+    cast-is-low
+    is-low-requires
     returns-2
     add-end
     sub-is-utf8

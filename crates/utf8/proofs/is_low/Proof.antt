@@ -1,32 +1,29 @@
--- `utf8::is_below` meets its contract. The invariant of its loop: where `all` is true, k octets are at most the tops.
+-- `utf8::is_low` meets its contract. The invariant of its loop: where `all` is true, of k octets those are ASCII that are looked for.
 -- Assumes nothing.
 use Prim.Native.Nat.{_-_, _≤_}
 use native.Mathlib.Omega.{arith}
 use mathlib.Core.Bool.{true}
 use mathlib.Core.Path.{_≡_}
 use borrow.Author.Needs.{needs}
-use Rattle.utf8.specs.Reading.{Below}
-use Rattle.utf8.proofs.Part.{below-none, below-more}
-use Rattle.utf8.proofs.is_below.Statement.{statement}
-use Rattle.utf8.proofs.is_below.Tie as tie
+use Rattle.utf8.specs.Reading.{Low}
+use Rattle.utf8.proofs.Part.{low-none, low-more}
+use Rattle.utf8.proofs.is_low.Statement.{statement}
+use Rattle.utf8.proofs.is_low.Tie as tie
 
 abbrev Inv-loop : tie.InvT-loop
-Inv-loop s i tops j all₀ k₀ all k = (k ≤ 96) × (all ≡ true → Below s i tops j k)
+Inv-loop s i n places all₀ k₀ all k = (k ≤ 96) × (all ≡ true → Low s i n places k)
 
 abbrev μ-loop : tie.MeasureT-loop
-μ-loop s i tops j all₀ k₀ all k = 96 - k
+μ-loop s i n places all₀ k₀ all k = 96 - k
 
 loop-holds : tie.Need-loop-holds Inv-loop μ-loop
-loop-holds c = (search needs, λ e. below-none _ _ _ _)
+loop-holds c = (search needs, λ e. low-none _ _ _ _)
 
 add-all : tie.Need-add-all Inv-loop μ-loop
 add-all c = search needs
 
 shared-slice-read-all : tie.Need-shared-slice-read-all Inv-loop μ-loop
 shared-slice-read-all c = search needs
-
-add-all-2 : tie.Need-add-all-2 Inv-loop μ-loop
-add-all-2 c = search needs
 
 element-copy-out-all : tie.Need-element-copy-out-all Inv-loop μ-loop
 element-copy-out-all c = search needs
@@ -41,7 +38,7 @@ loop-again : tie.Need-loop-again Inv-loop μ-loop
 loop-again c =
     let a = c .before .before .before .before .args in
     let l = c .before .before .before .loop in
-    (search needs, λ e. below-more (a .s .now) (a .i) (a .tops .now) (a .j) (l .k) (l .all) (l .inv .1) e)
+    (search needs, λ e. low-more (a .s .now) (a .i) (a .n) (a .places .now) (l .k) (l .all) (l .inv .1) e)
 
 returns : tie.Need-returns Inv-loop μ-loop
 returns c =
@@ -49,8 +46,8 @@ returns c =
     let e : l .k ≡ 96 = omega arith in
     rw e at (l .inv .1)
 
-pub is-below-spec : {M : Type 1} → statement M
-is-below-spec =
+pub is-low-spec : {M : Type 1} → statement M
+is-low-spec =
     tie.close
     (tie.spec
     Inv-loop
@@ -58,7 +55,6 @@ is-below-spec =
     loop-holds
     add-all
     shared-slice-read-all
-    add-all-2
     element-copy-out-all
     add-k
     loop-less

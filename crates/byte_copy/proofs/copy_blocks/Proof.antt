@@ -3,9 +3,9 @@ use mathlib.Core.Path.{_≡_, refl, _∙_}
 use Prim.Native.Nat.{ℕ, _+_, _-_, _≤_}
 use native.Mathlib.Omega.{arith}
 use lib.ListN.{length}
-use Rattle.bytes.proofs.Blocks.{Copied, block-copied, all-copied}
-use Rattle.bytes.proofs.copy_blocks.Statement.{statement}
-use Rattle.bytes.proofs.copy_blocks.Tie as tie
+use Rattle.byte_copy.proofs.Blocks.{Copied, block-copied, all-copied}
+use Rattle.byte_copy.proofs.copy_blocks.Statement.{statement}
+use Rattle.byte_copy.proofs.copy_blocks.Tie as tie
 
 abbrev Inv-loop : tie.InvT-loop
 Inv-loop to₀ from block₀ size last at₀ to block at = (at ≤ length from) × (length block ≡ length block₀) × Copied from to at

@@ -4,8 +4,8 @@ use Prim.Native.Nat.{_-_, _≤_}
 use lib.ListN.{length, take, length-set}
 use lib.Seq.{take-suc, take-suc-set, take-all}
 use native.Mathlib.Numerals.{add-one}
-use Rattle.bytes.proofs.copy_bytes.Statement.{statement}
-use Rattle.bytes.proofs.copy_bytes.Tie as tie
+use Rattle.byte_copy.proofs.copy_bytes.Statement.{statement}
+use Rattle.byte_copy.proofs.copy_bytes.Tie as tie
 
 abbrev Inv-loop : tie.InvT-loop
 Inv-loop to₀ from done₀ to done = (done ≤ length from) × (length to ≡ length from) × (take done to ≡ take done from)

@@ -3,11 +3,11 @@ use Prim.Native.Nat.{_-_}
 use native.Mathlib.Omega.{arith}
 use lib.ListN.{length, drop, length-drop}
 use lib.Seq.{length-take-le}
-use Rattle.bytes.specs.Sets.{sets-past}
-use Rattle.bytes.proofs.Parts.{some-stored, all-stored}
+use Rattle.byte_copy.specs.Sets.{sets-past}
+use Rattle.byte_copy.proofs.Parts.{some-stored, all-stored}
 use borrow.Author.Needs.{needs}
-use Rattle.bytes.proofs.copy.Statement.{statement}
-use Rattle.bytes.proofs.copy.Tie as tie
+use Rattle.byte_copy.proofs.copy.Statement.{statement}
+use Rattle.byte_copy.proofs.copy.Tie as tie
 
 returns : tie.Need-returns
 returns c = (let a = c .before .before .before .args in sym (sets-past (a .to .now) (a .from .now) (a .at) (omega arith)))

@@ -7,8 +7,8 @@ use native.Mathlib.Omega.{arith}
 use borrow.Rule.Slice.PartMut.{putMid}
 use lib.ListN.{length, take, drop, length-drop}
 use lib.Seq.{sets, length-sets, length-take-le, take-take, take-add, take-all}
-use Rattle.bytes.specs.Sets.{take-sets}
-use Rattle.bytes.proofs.Parts.{part-back}
+use Rattle.byte_copy.specs.Sets.{take-sets}
+use Rattle.byte_copy.proofs.Parts.{part-back}
 
 -- as long as the other, and so many bytes are the same
 pub record Copied (from to : List ℕ) (n : ℕ) : Type 0 where

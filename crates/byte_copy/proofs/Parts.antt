@@ -7,7 +7,7 @@ use native.Mathlib.Omega.{arith}
 use borrow.Rule.Slice.PartMut.{putMid}
 use lib.ListN.{length, take, drop}
 use lib.Seq.{sets, sets-eq, drop-drop, length-take-le}
-use Rattle.bytes.specs.Sets.{sets-take}
+use Rattle.byte_copy.specs.Sets.{sets-take}
 
 pub part-back : (l ws : List ℕ) (i k : ℕ) → k ≡ length ws → i + length ws ≤ length l → putMid i k l ws ≡ sets l i ws
 part-back l ws i k e h = rw (e, drop-drop) (sym (append-assoc (take i l) ws (drop (i + length ws) l)) ∙ sym (sets-eq ws l i h))

@@ -1,7 +1,7 @@
-use Rattle.bytes.proofs.Blocks.{block-stored}
+use Rattle.byte_copy.proofs.Blocks.{block-stored}
 use borrow.Author.Needs.{needs}
-use Rattle.bytes.proofs.copy_block.Statement.{statement}
-use Rattle.bytes.proofs.copy_block.Tie as tie
+use Rattle.byte_copy.proofs.copy_block.Statement.{statement}
+use Rattle.byte_copy.proofs.copy_block.Tie as tie
 
 add-end : tie.Need-add-end
 add-end c = search needs
