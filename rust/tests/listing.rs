@@ -28,12 +28,15 @@ fn stored_answers() {
     let folder = Path::new(env!("CARGO_MANIFEST_DIR")).join("../crates/vectors");
     let inputs = fs::read_to_string(folder.join("stdin")).unwrap();
     let answers = fs::read_to_string(folder.join("stdout")).unwrap();
-    // Each answer stands twice.
-    let answers: Vec<&str> = answers.lines().step_by(2).collect();
-    let inputs: Vec<&str> = inputs.lines().collect();
-    assert_eq!(inputs.len(), answers.len());
-    for (input, answer) in inputs.into_iter().zip(answers) {
+    let mut left = answers.as_str();
+    for input in inputs.lines() {
         let listed = listing(&bytes(input));
-        assert_eq!(listed.trim_end().replace('\n', "|"), answer, "{input}");
+        // Each answer stands twice.
+        for _ in 0..2 {
+            left = left
+                .strip_prefix(listed.as_str())
+                .unwrap_or_else(|| panic!("{input} is listed as {listed}"));
+        }
     }
+    assert_eq!(left, "");
 }
