@@ -1,4 +1,4 @@
-// Copies of bytes from one slice to another, in blocks: a byte at a time is several times slower.
+// Copies of bytes from one slice to another, in blocks (docs/BENCHMARKS.md, the writer, says what they give).
 ghost use mathlib.Core.Path.{_≡_};
 ghost use Prim.Native.Nat.{_+_, _≤_, _<_};
 ghost use lib.ListN.{length, take, drop};
