@@ -148,6 +148,23 @@ lastPool (reads e n r) = lastPool r
 lastPool (ended p) = some p
 lastPool (stopped n d) = none
 
+-- what is left of a reading after so many events
+abbrev pub left : ℕ → Reading → Reading
+left zero r = r
+left (suc k) (reads e n r) = left k r
+left (suc k) (ended p) = ended p
+left (suc k) (stopped n d) = stopped n d
+
+-- the pool after the events of a reading of s, whether it ends or stops
+unfoldable pub namesFrom : Reading → Pool → List ℕ → Pool
+namesFrom (reads e n r) pool s = namesFrom r (poolOf s pool (event all (length pool) s)) (drop n s)
+namesFrom (ended p) pool s = pool
+namesFrom (stopped n d) pool s = pool
+
+-- after those of a document
+unfoldable pub namesOf : List ℕ → Pool
+namesOf s = namesFrom (read s) [] (drop 4 s)
+
 -- lengths added up
 unfoldable pub total : List ℕ → ℕ
 total [] = 0

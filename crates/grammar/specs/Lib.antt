@@ -6,6 +6,7 @@ pub mod Example
 pub mod Choice
 pub mod Kinds
 pub mod Laws
+pub mod Numbers
 pub mod Steps
 pub mod Added
 pub mod Said

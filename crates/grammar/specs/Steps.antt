@@ -12,7 +12,7 @@ use lib.Dec.{ltb}
 use Rattle.event.specs.Row.{Event}
 use Rattle.grammar.specs.Grammar.{Span, Ref, new, known, Value, Item, Items, item, whole, lacks, stops, most, counted, countedName, countedValue, after, event}
 use Rattle.wire.specs.Header.{u32At, magic, header}
-use Rattle.grammar.specs.Document.{Pool, bytesAt, refBytes, keep, nameBytes, keepName, valueOf, keepValue, keepItem, rowOf, rowsOf, poolOf, One, one, ending, all, readOne, Reading, reads, thenReading, readF, read, events, sizes}
+use Rattle.grammar.specs.Document.{Pool, bytesAt, refBytes, keep, nameBytes, keepName, valueOf, keepValue, keepItem, rowOf, rowsOf, poolOf, One, one, ending, all, readOne, Reading, reads, thenReading, readF, read, events, sizes, namesFrom, namesOf}
 use Rattle.grammar.specs.Laws.{In, RefFits, NameFits, ValueFits, ItemFits, Agree, agree-event, part-append, u32At-append}
 use Rattle.event.specs.declared.Shape.{Shape}
 use Rattle.grammar.specs.Choice.{byTest}
@@ -194,6 +194,7 @@ pub record Reads-on (pool : Pool) (s : List ℕ) (fin : Bool) (n : ℕ) (is : It
   pub some-bytes : 1 ≤ n
   pub within : n ≤ length s
   pub onward : (u : List ℕ) → Open fin u → readS pool (s ++ u) ≡ reads (rowsOf s pool is) n (readS (poolOf s pool is) (drop n s ++ u))
+  pub same-names : (u : List ℕ) → Open fin u → poolOf (s ++ u) pool (event all (length pool) (s ++ u)) ≡ poolOf s pool is
 
 pub reads-on-one : (pool : Pool) (s : List ℕ) (fin : Bool) (n : ℕ) → Ends n false (event all (length pool) s) → Reads-on pool s fin n (event all (length pool) s)
 unfolding readOne
@@ -208,6 +209,7 @@ reads-on-one pool s fin n w =
           let g = again s u pool 1 n (length pool) is y refl (agree-event s u all (length pool)) w in
           readS-one pool (s ++ u) (rowsOf s pool is) n (poolOf s pool is) (rw (g .rows, g .names) (ending-ends _ _ n false y (g .ends)))
           ∙ rw (drop-append-le n s u (b .1));
+      same-names = λ u _. again s u pool 1 n (length pool) is (event all (length pool) (s ++ u)) refl (agree-event s u all (length pool)) w .names;
     }
 
 pub reads-on-edge : (pool : Pool) (s : List ℕ) (n : ℕ) → Ends n true (event all (length pool) s) → Reads-on pool s true n (event all (length pool) s)
@@ -219,7 +221,18 @@ reads-on-edge pool s n w =
       some-bytes = b .0;
       within = b .1;
       onward = λ u z. rw (z, append-nil s, append-nil (drop n s)) (readS-one pool s (rowsOf s pool is) n (poolOf s pool is) (ending-ends _ _ n true is w));
+      same-names = λ u z. rw (z, append-nil s);
     }
+
+-- the names from there on
+pub names-on : (pool : Pool) (s : List ℕ) (fin : Bool) (n : ℕ) (is : Items) → Reads-on pool s fin n is → (u : List ℕ) → Open fin u
+    → namesFrom (readS pool (s ++ u)) pool (s ++ u) ≡ namesFrom (readS (poolOf s pool is) (drop n s ++ u)) (poolOf s pool is) (drop n s ++ u)
+unfolding namesFrom
+names-on pool s fin n is on u v =
+    let r : Reading = readS (poolOf s pool is) (drop n s ++ u) in
+    ap (λ (x : Reading). namesFrom x pool (s ++ u)) (on .onward u v)
+    ∙ ap (λ (p : Pool). namesFrom r p (drop n (s ++ u))) (on .same-names u v)
+    ∙ ap (λ (x : List ℕ). namesFrom r (poolOf s pool is) x) (drop-append-le n s u (on .within))
 
 -- ---- readings that begin with these events
 
@@ -254,3 +267,7 @@ read-passed s u a b =
     let l = length-append s u in
     rw (le-ltb (length (s ++ u)) 4 (omega arith), u32At-append s u 0 (omega arith), eq-eqb (u32At s 0) magic b, drop-append-le 4 s u a)
     (readF-fuel (length (s ++ u)) (length (drop 4 s ++ u)) [] (drop 4 s ++ u) (omega (arith, length-append (drop 4 s) u, length-drop 4 s)) (omega arith))
+
+pub names-passed : (s u : List ℕ) → 4 ≤ length s → u32At s 0 ≡ magic → namesOf (s ++ u) ≡ namesFrom (readS [] (drop 4 s ++ u)) [] (drop 4 s ++ u)
+unfolding namesOf
+names-passed s u a b = rw (read-passed s u a b, drop-append-le 4 s u a)

@@ -1,6 +1,6 @@
 -- What stands at a place of the document, where the pool table holds the pool: the next event of the reading, its refusal, or its end.
-use mathlib.Core.Bool.{true, false, true≢false}
-use mathlib.Core.List.{List, [], _∷_, _++_, append-nil}
+use mathlib.Core.Bool.{true, true≢false}
+use mathlib.Core.List.{List, [], _++_, append-nil}
 use mathlib.Core.Path.{_≡_, refl, sym, ap, _∙_}
 use Prim.Native.Nat.{ℕ, zero, suc, _+_, _*_, _-_, _≤_}
 use native.Mathlib.Omega.{arith}
@@ -9,45 +9,19 @@ use lib.ListN.{length, take, drop, length-drop}
 use lib.Seq.{sets, drop-drop, drop-length, take-length}
 use lib.Dec.{eqb}
 use Rattle.event.specs.Row.{Event, rowsAt}
-use Rattle.grammar.specs.Grammar.{Span, Items, item, whole, lacks, stops, event}
-use Rattle.grammar.specs.Document.{Pool, all, rowsOf, poolOf, One, one, refused, ending, readOne, reads, ended, stopped, readF}
+use Rattle.grammar.specs.Grammar.{Span, Items, event}
+use Rattle.grammar.specs.Document.{Pool, all, rowsOf, poolOf, one, readOne, reads, ended, stopped, readF}
 use Rattle.grammar.specs.Scan.{adds, pairs, count, words, Outcome, complete, incomplete, bad, outcome}
 use Rattle.grammar.specs.Choice.{byTest}
 use Rattle.grammar.specs.Laws.{Agree, agree-event}
 use Rattle.grammar.specs.Steps.{readS, Reads-on}
-use Rattle.grammar.specs.Outcomes.{complete-reads-on, incomplete-last}
+use Rattle.grammar.specs.Outcomes.{complete-reads-on, one-outcome, bad-stops, incomplete-last}
 use Rattle.grammar.specs.Added.{these, AllIn, adds-in, grown, pool-adds}
 use Rattle.grammar.specs.Said.{rows-say}
 use Rattle.grammar.specs.Remaining.{count-rows}
 use Rattle.slice_spec.specs.Slice.{Place, itemsAt, tableAfter}
 use Rattle.slice_spec.specs.Queries.{tableWith}
 use Rattle.slice_spec.specs.Held.{Held, held-adds, held-with, held-finds, sound-all}
-
--- ---- one event's reading, by its outcome once no more will come
-
--- an incomplete one never comes
-abbrev endingBy : Event → Pool → Outcome → One
-endingBy rows pool (complete n) = one rows n pool
-endingBy rows pool incomplete = refused 0 0
-endingBy rows pool (bad n d) = refused n d
-
-ending-outcome : (rows : Event) (pool : Pool) (is : Items) → ending rows pool is ≡ endingBy rows pool (outcome true is)
-unfolding outcome ending
-ending-outcome rows pool (item i is) = ending-outcome rows pool is
-ending-outcome rows pool (whole m true) = refl
-ending-outcome rows pool (whole m false) = refl
-ending-outcome rows pool (lacks k) = refl
-ending-outcome rows pool (stops m c) = refl
-
-one-outcome : (pool : Pool) (s : List ℕ) (o : Outcome) → outcome true (event all (length pool) s) ≡ o
-    → readOne pool s ≡ endingBy (rowsOf s pool (event all (length pool) s)) (poolOf s pool (event all (length pool) s)) o
-unfolding readOne
-one-outcome pool s o h = ending-outcome _ _ (event all (length pool) s) ∙ rw h
-
-bad-stops : (pool : Pool) (s : List ℕ) (n d : ℕ) → 1 ≤ length s → readOne pool s ≡ refused n d → readS pool s ≡ stopped n d
-unfolding readS readF
-bad-stops pool [] n d l h = absurd (omega arith)
-bad-stops pool (b ∷ s) n d l h = rw h
 
 -- ---- at a place
 

@@ -64,7 +64,7 @@ module _ (P : Left → Type 0) (r : Stream) (l : Lent) where
         go : (r .finished && eqb from (r .end)) ≡ false → (o : Outcome) → outcome (r .finished) (rowsFrom from) ≡ o → P (byOutcome r l rows from (rowsFrom from) o)
         go going (complete n) e = handOut-by from (rowsFrom from) n (event-there n e going)
         go going incomplete e = cond-by P (eqb (r .end - from) (length (l .window))) _ _ (λ _. refuses _ _) (more e)
-        go going (bad n d) e = refuses n d
+        go going (bad n d) e = refuses _ _
 
     pub next-by : (r .header ≡ true → P (nextFrom r l rows (r .start)))
         → (r .header ≡ false → r .finished ≡ false → r .end - r .start < 4 → P (unchanged r l rows needMore))

@@ -1,15 +1,21 @@
 -- Lists of feed, next and finish calls on one chunk reader, what has come of them, and what is claimed of that. The words
 -- in quotes are document 01's, "Chunk reader".
 use mathlib.Core.Bool.{Bool, true, false, cond}
+use mathlib.Core.Option.{none}
 use mathlib.Core.List.{List, [], _∷_, _++_}
+use mathlib.Core.Logic.{_⊎_}
 use mathlib.Core.Path.{_≡_}
-use Prim.Native.Nat.{ℕ, _+_, _*_, _-_, _≤_, _<_}
+use Prim.Native.Nat.{ℕ, _+_, _*_, _-_, _/_, _≤_, _<_}
 use lib.ListN.{length, take, drop}
 use lib.Seq.{slice}
 use lib.Dec.{leb}
+use Rattle.wire.specs.Refusal.{invalidMagic, rowsFull, poolFull, namesFull, windowFull}
 use Rattle.event.specs.Row.{Event, rowsAt}
-use Rattle.grammar.specs.Document.{Pool, poolBytes, read, events, sizes, total}
-use Rattle.stream_spec.specs.Stream.{Stream, Lent, Left, Reply, took, done, gives, needMore, end, refused, feed, finish, next}
+use Rattle.grammar.specs.Document.{Pool, poolBytes, Reading, reads, stopped, read, events, sizes, lastPool, left, namesOf, total}
+use Rattle.grammar.specs.Numbers.{Lasting}
+use Rattle.grammar.specs.Steps.{Open}
+use Rattle.grammar.specs.Outcomes.{Last}
+use Rattle.stream_spec.specs.Stream.{Stream, Lent, Left, Reply, took, done, gives, needMore, end, refused, unchanged, feed, finish, next}
 
 -- ---- lists of calls
 
@@ -143,18 +149,54 @@ pub record Sound (t : Trace) : Type 0 where
   pub waiting : slice (t .stream .start) (t .stream .end) (t .lent .window) ≡ drop (consumed t) (t .accepted)
   -- End means that all that the grammar reads from the accepted bytes came out
   pub exact : t .ended ≡ true → t .handed ≡ events (read (t .accepted))
+  -- and that it read to its end, with none waiting
+  pub drained : t .ended ≡ true → (waits (t .stream) ≡ 0) × (lastPool (read (t .accepted)) ≡ none → ⊥)
 
 -- ---- what is claimed after a NeedMore
 
 -- Of "NeedMore: exactly when unfinished, header or event incomplete, and the window isn't full" this is a part: no NeedMore
 -- holds back an event that could be handed out. No finish was accepted, a feed has room, and of the events that the grammar reads from the
 -- accepted bytes at most one is not handed out, which ends where they end (a start tag, since more attributes may follow).
--- All of the sentence is `next` itself
+-- And it stands for no refusal but of bytes that lack. All of the sentence is `next` itself
 pub record Prompt (t : Trace) : Type 0 where
   pub unfinished : t .finished ≡ false
   pub feedable : waits (t .stream) < length (t .lent .window)
   pub all-but-last : (e : Event) (es : List Event) → t .handed ++ (e ∷ es) ≡ events (read (t .accepted))
       → (es ≡ []) × (length (t .accepted) ≡ t .header + total (sizes (read (t .accepted))))
+  -- what is left to read of them, were they all: nothing; a start tag that takes all that wait; or a header or an event that lacks
+  -- bytes, with 1, 3, 4 or 5
+  pub awaits : Last (waits (t .stream)) (left (length (t .handed)) (read (t .accepted)))
+
+-- ---- what is claimed of a refused next
+
+-- the grammar refuses: however the accepted bytes may go on, it reads of them the events handed out and then stops with
+-- this number and detail. Until a finish these are 2 and 6 to 9, which no byte that follows can mend
+pub record Stops (t : Trace) (n d : ℕ) : Type 0 where
+  pub all-handed : (u : List ℕ) → Open (t .finished) u → events (read (t .accepted ++ u)) ≡ t .handed
+  pub stops : (u : List ℕ) → Open (t .finished) u → left (length (t .handed)) (read (t .accepted ++ u)) ≡ stopped n d
+  pub number : (1 ≤ n) × (n ≤ 9)
+  pub early : t .finished ≡ false → (n ≡ invalidMagic) ⊎ Lasting n
+
+-- the event e is the next one, however the accepted bytes may go on
+pub record Next-is (t : Trace) (e : Event) : Type 0 where
+  pub size : ℕ
+  pub rest : List ℕ → Reading
+  pub reading : (u : List ℕ) → Open (t .finished) u → left (length (t .handed)) (read (t .accepted ++ u)) ≡ reads e size (rest u)
+
+-- what each refusal of a next means: 1 to 9, 10, 11, 12, 13. No other comes
+pub data Refused (t : Trace) (rows : List ℕ) (n d : ℕ) : Type 0 where
+  by-grammar : Stops t n d → Refused t rows n d
+  -- the next event has more rows
+  few-rows : (e : Event) → Next-is t e → length rows / 8 < length e → n ≡ rowsFull → d ≡ 0 → Refused t rows n d
+  -- the names up to the next event, and so the document's, have no room
+  short-table : (e : Event) → Next-is t e → ((u : List ℕ) → Open (t .finished) u → length (t .lent .table) < 2 * length (namesOf (t .accepted ++ u)))
+      → n ≡ poolFull → d ≡ 0 → Refused t rows n d
+  short-store : (e : Event) → Next-is t e → ((u : List ℕ) → Open (t .finished) u → length (t .lent .store) < poolBytes (namesOf (t .accepted ++ u)))
+      → n ≡ namesFull → d ≡ 0 → Refused t rows n d
+  -- what waits past the header fills the window, and is no event yet
+  full-window : t .finished ≡ false → Last (length (t .lent .window)) (left (length (t .handed)) (read (t .accepted)))
+      → length (t .accepted) ≡ 4 + total (take (length (t .handed)) (sizes (read (t .accepted)))) + length (t .lent .window)
+      → n ≡ windowFull → d ≡ 0 → Refused t rows n d
 
 -- ---- what is claimed once no more will come
 
@@ -171,3 +213,16 @@ Delivers (e ∷ es) t =
     → (next (t .stream) (t .lent) rows .reply ≡ gives (length e))
     × (step t (call-next rows) .handed ≡ t .handed ++ (e ∷ []))
     × Delivers es (step t (call-next rows))
+
+-- what a reading has comes: each event at a next that has rows for it, else 10; then End, or the refusal at which it stops. A
+-- refused next leaves all as it was, so that it is refused again
+abbrev pub Answers : Reading → Trace → Type 0
+Answers (reads e n r) t =
+    (rows : List ℕ)
+    → (length rows < 8 * length e → next (t .stream) (t .lent) rows ≡ unchanged (t .stream) (t .lent) rows (refused rowsFull 0))
+    × (8 * length e ≤ length rows
+    → (next (t .stream) (t .lent) rows .reply ≡ gives (length e))
+    × (step t (call-next rows) .handed ≡ t .handed ++ (e ∷ []))
+    × Answers r (step t (call-next rows)))
+Answers (Reading.ended p) t = (rows : List ℕ) → next (t .stream) (t .lent) rows .reply ≡ end
+Answers (stopped n d) t = (rows : List ℕ) → next (t .stream) (t .lent) rows ≡ unchanged (t .stream) (t .lent) rows (refused n d)

@@ -1,5 +1,6 @@
 -- An invariant of every list of calls, and that it says what is claimed of them.
 use mathlib.Core.Bool.{Bool, true, false, _&&_, cond, true≢false, false≢true}
+use mathlib.Core.Option.{none}
 use mathlib.Core.List.{List, [], _∷_, _++_, append-assoc, append-nil}
 use mathlib.Core.Path.{_≡_, refl, sym, ap, _∙_}
 use Prim.Native.Nat.{ℕ, _+_, _*_, _-_, _/_, _≤_, _<_}
@@ -12,13 +13,14 @@ use lib.Dec.{eqb}
 use Rattle.wire.specs.Header.{u32At, magic}
 use Rattle.event.specs.Row.{Event, rowsAt}
 use Rattle.grammar.specs.Grammar.{Span, Items, event}
-use Rattle.grammar.specs.Document.{Pool, all, rowsOf, poolOf, Reading, read, readF, events, sizes, total}
+use Rattle.grammar.specs.Document.{Pool, all, rowsOf, poolOf, Reading, read, readF, events, sizes, lastPool, left, namesFrom, namesOf, total}
 use Rattle.grammar.specs.Scan.{lengths, copiedPairs, joined, sound, complete, outcome, adds, count, words}
 use Rattle.grammar.specs.Choice.{byTest}
 use Rattle.grammar.specs.Laws.{Agree, agree-event}
-use Rattle.grammar.specs.Steps.{chain, chain-snoc, events-chain, sizes-chain, read-passed, readS, Open, Reads-on}
+use Rattle.grammar.specs.Steps.{chain, chain-snoc, events-chain, sizes-chain, read-passed, names-passed, readS, Open, Reads-on, names-on}
 use Rattle.grammar.specs.Outcomes.{complete-reads-on}
 use Rattle.grammar.specs.Added.{pool-adds, adds-in}
+use Rattle.grammar.specs.Remaining.{left-chain}
 use Rattle.grammar.specs.Said.{rows-say, words-length}
 use Rattle.grammar.specs.Stores as Stores
 use Rattle.stream_spec.specs.Stream.{Stream, Lent, Created, created, fresh, sizesBad, create, fitting, fed, feed, finish, given, next, nextFrom, passed}
@@ -35,6 +37,11 @@ total-snoc (m ∷ ns) n = omega (arith, total-snoc ns n)
 abbrev pub resume : Bool → Pool → List ℕ → Reading
 resume false pool s = read s
 resume true pool s = readS pool s
+
+-- and the names at its end
+abbrev pub resumeNames : Bool → Pool → List ℕ → Pool
+resumeNames false pool s = namesOf s
+resumeNames true pool s = namesFrom (readS pool s) pool s
 
 pub open-nil : (b : Bool) → Open b []
 open-nil true = refl
@@ -54,10 +61,24 @@ pub record Inv (r : Stream) (l : Lent) (acc : List ℕ) (handed : List Event) (h
   pub sum : length acc ≡ header + total ns + (r .end - r .start)
   pub waiting : slice (r .start) (r .end) (l .window) ≡ drop (header + total ns) acc
   pub onward : (u : List ℕ) → Open (r .finished) u → read (acc ++ u) ≡ chain handed ns (resume (r .header) pool (slice (r .start) (r .end) (l .window) ++ u))
+  pub names-on : (u : List ℕ) → Open (r .finished) u → namesOf (acc ++ u) ≡ resumeNames (r .header) pool (slice (r .start) (r .end) (l .window) ++ u)
   pub at-end : over ≡ true → (r .finished ≡ true) × (r .header ≡ true) × (r .start ≡ r .end)
 
 abbrev pub Holds : Trace → Type 0
 Holds t = Inv (t .stream) (t .lent) (t .accepted) (t .handed) (t .header) (t .ended)
+
+-- what is left to read after the events handed out
+pub left-read : (r : Stream) (l : Lent) (acc : List ℕ) (handed : List Event) (header : ℕ) (over : Bool) (h : Inv r l acc handed header over) (u : List ℕ) → Open (r .finished) u
+    → left (length handed) (read (acc ++ u)) ≡ resume (r .header) (h .pool) (slice (r .start) (r .end) (l .window) ++ u)
+left-read r l acc handed header over h u v = rw (h .onward u v) (left-chain handed (h .ns) _ (h .as-many))
+
+-- a reading that ends after these events does not stop
+no-some : (es : List Event) (ns : List ℕ) (p : Pool) → length ns ≡ length es → lastPool (chain es ns (readS p [])) ≡ none → ⊥
+unfolding lastPool readS readF
+no-some [] [] p h q = let z : _≡_ {A = ℕ} 0 1 = cc q in omega arith
+no-some [] (n ∷ ns) p h q = absurd (omega arith)
+no-some (e ∷ es) [] p h q = absurd (omega arith)
+no-some (e ∷ es) (n ∷ ns) p h q = no-some es ns p (omega arith) q
 
 -- it says what is asked
 pub holds-sound : (t : Trace) → Holds t → Sound t
@@ -76,6 +97,10 @@ holds-sound t h =
           let a = h .at-end o in
           let z : s ≡ [] = rw (a .2) (slice-empty (t .stream .end) (t .lent .window)) in
           sym (rw e (events-chain (t .handed) (h .ns) (resume (t .stream .header) (h .pool) s) (h .as-many) ∙ rw (a .1, z) (append-nil (t .handed))));
+      drained = λ o.
+          let a = h .at-end o in
+          let z : s ≡ [] = rw (a .2) (slice-empty (t .stream .end) (t .lent .window)) in
+          (omega (arith, a .2), λ q. no-some (t .handed) (h .ns) (h .pool) (h .as-many) (sym (ap lastPool (e ∙ rw (a .1, z))) ∙ q));
     }
 
 -- it holds at the start
@@ -93,6 +118,7 @@ holds-start l = record {
   sum = refl;
   waiting = refl;
   onward = λ u _. refl;
+  names-on = λ u _. refl;
   at-end = λ e. absurd (false≢true e);
 }
 
@@ -126,6 +152,7 @@ holds-feed t chunk h =
       sum = simp length-append (omega arith);
       waiting = front ∙ rw (h .waiting) (sym (drop-append-le (t .header + total (h .ns)) (t .accepted) c (omega arith)));
       onward = λ u _. rw (append-assoc (t .accepted) c u, front, append-assoc s c u) (h .onward (c ++ u) (rw unfin tt));
+      names-on = λ u _. rw (append-assoc (t .accepted) c u, front, append-assoc s c u) (h .names-on (c ++ u) (rw unfin tt));
       at-end = λ o. absurd (true≢false (sym (h .at-end o .0) ∙ unfin));
     })
 
@@ -145,6 +172,7 @@ holds-finish t h =
       sum = h .sum;
       waiting = h .waiting;
       onward = λ u z. h .onward u (rw z (open-nil (t .stream .finished)));
+      names-on = λ u z. h .names-on u (rw z (open-nil (t .stream .finished)));
       at-end = λ o. (refl, h .at-end o .1, h .at-end o .2);
     })
 
@@ -198,6 +226,9 @@ handed-out t rows from p is n e o going c₁ c₂ c₃ =
           p .onward u v
           ∙ ap (λ (x : Reading). chain (t .handed) (p .ns) x) (ro .onward u v)
           ∙ sym (rw (said, dropped) (chain-snoc (t .handed) (p .ns) (rowsOf s pool is) n (readS (poolOf s pool is) (drop n s ++ u)) (p .as-many)));
+      names-on = λ u v.
+          let later : Pool = poolOf s pool is in
+          p .names-on u v ∙ names-on pool s (r .finished) n is ro u v ∙ ap (λ (x : List ℕ). namesFrom (readS later (x ++ u)) later (x ++ u)) (sym dropped);
       at-end = λ z. let a = p .at-end z in absurd (true≢false (rw (a .0, eq-eqb from (r .end) (a .2)) at going));
     }
 
@@ -216,6 +247,7 @@ at-its-end r l acc handed header over h a b c = record {
   sum = h .sum;
   waiting = h .waiting;
   onward = h .onward;
+  names-on = h .names-on;
   at-end = λ _. (a, b, c);
 }
 
@@ -253,6 +285,7 @@ passed-on r l acc handed header over h hd =
       sum = omega (arith, h .sum);
       waiting = rw k at (h .waiting);
       onward = λ u v. rw hd at (h .onward u v);
+      names-on = λ u v. rw hd at (h .names-on u v);
       at-end = λ z. (h .at-end z .0, refl, h .at-end z .2);
     }
 
@@ -294,6 +327,11 @@ passing r l acc handed header over h hd four m =
       onward = λ u v.
           let e : read (acc ++ u) ≡ chain handed (h .ns) (read (s ++ u)) = rw hd at (h .onward u v) in
           e ∙ rw (read-passed s u (omega arith) m′, dropped, h .at-first hd .0);
+      names-on = λ u v.
+          let e : namesOf (acc ++ u) ≡ namesOf (s ++ u) = rw hd at (h .names-on u v) in
+          e ∙ names-passed s u (omega arith) m′
+          ∙ ap (λ (x : List ℕ). namesFrom (readS [] (x ++ u)) [] (x ++ u)) (sym dropped)
+          ∙ ap (λ (q : Pool). namesFrom (readS q (slice (r .start + 4) (r .end) (l .window) ++ u)) q (slice (r .start + 4) (r .end) (l .window) ++ u)) (sym (h .at-first hd .0));
       at-end = λ z. absurd (true≢false (sym (h .at-end z .1) ∙ hd));
     }
 

@@ -5,4 +5,5 @@ pub mod Held
 pub mod Invariant
 pub mod Lively
 pub mod Prompt
+pub mod Refusals
 pub mod Runs

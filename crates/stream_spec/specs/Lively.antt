@@ -1,31 +1,34 @@
--- Once no more will come: with room for the names, the events that are left come out one by one, and then End.
-use mathlib.Core.Bool.{Bool, true, false, _&&_}
+-- Once no more will come: with room for the names, the events that are left come out one by one, and then End or the refusal at
+-- which the grammar stops.
+use mathlib.Core.Bool.{Bool, true, false, _&&_, cond, true≢false}
 use mathlib.Core.Option.{some}
 use mathlib.Core.List.{List, [], _∷_, _++_, append-assoc, append-nil}
 use mathlib.Core.Path.{_≡_, refl, sym, ap, _∙_}
-use Prim.Native.Nat.{ℕ, _+_, _*_, _-_, _/_, _≤_}
+use Prim.Native.Nat.{ℕ, zero, suc, _+_, _*_, _-_, _/_, _≤_, _<_}
 use native.Mathlib.Omega.{arith}
-use borrow.Author.Tests.{ltb-false, eqb-true, le-ltb, eq-eqb, ne-eqb}
+use borrow.Author.Tests.{ltb-true, ltb-false, eqb-true, eqb-false, lt-ltb, le-ltb, ne-eqb}
 use lib.ListN.{length, take, drop, length-append, length-drop}
-use lib.Seq.{slice, drop-drop, length-slice, length-sets, length-take-le, take-append-seam, drop-append-seam}
+use lib.Seq.{slice, slice-empty, length-slice, length-sets, length-take-le, take-append-seam, drop-append-seam}
 use lib.Dec.{ltb, eqb}
 use Rattle.wire.specs.Header.{u32At, magic, header}
+use Rattle.wire.specs.Refusal.{headerShort, invalidMagic, rowsFull}
 use Rattle.event.specs.Row.{Event}
 use Rattle.grammar.specs.Grammar.{Span, Items, event}
-use Rattle.grammar.specs.Document.{Pool, poolBytes, all, poolOf, read, events, lastPool}
-use Rattle.grammar.specs.Scan.{lengths, sound, adds, count, outcome, complete}
+use Rattle.grammar.specs.Document.{Pool, poolBytes, all, rowsOf, poolOf, Reading, reads, ended, stopped, readF, read, events, lastPool, left, namesOf}
+use Rattle.grammar.specs.Scan.{lengths, adds, count, Outcome, outcome, complete, incomplete, bad}
 use Rattle.grammar.specs.Choice.{byTest}
 use Rattle.grammar.specs.Laws.{agree-event}
-use Rattle.grammar.specs.Steps.{chain, readS}
+use Rattle.grammar.specs.Steps.{readS, Open, Reads-on, names-on}
+use Rattle.grammar.specs.Outcomes.{complete-reads-on, bad-stops-on, incomplete-last}
 use Rattle.grammar.specs.Added.{these, AllIn, adds-in, grown, bytesAt-length, pool-adds}
-use Rattle.grammar.specs.Remaining.{Tells, tells-own, tells-events, tells-rest, Comes, comes, none-comes, count-rows}
-use Rattle.stream_spec.specs.Stream.{Stream, Lent, Left, Reply, gives, end, created, sizesBad, stateBad, checked, create, fitting, fed, feed, finish, given, handOut, passed, byOutcome, nextFrom, nextHeader, next}
+use Rattle.grammar.specs.Remaining.{count-rows, names-of-last, names-grow, left-events, left-pool, left-more}
+use Rattle.stream_spec.specs.Stream.{Stream, Lent, Left, Reply, gives, end, created, unchanged, sizesBad, stateBad, checked, create, fitting, fed, feed, finish, given, handOut, passed, byOutcome, nextFrom, nextHeader, next}
 use Rattle.stream_spec.specs.Branches.{feed-by, finish-by, next-by, nextFrom-by}
-use Rattle.stream_spec.specs.Calls.{Call, call-feed, call-next, call-finish, Trace, handedBy, finishedBy, afterFeed, afterNext, afterFinish, step, run, start, Room, Delivers}
+use Rattle.stream_spec.specs.Calls.{Call, call-feed, call-next, call-finish, Trace, handedBy, finishedBy, afterFeed, afterNext, afterFinish, step, run, start, Room, Delivers, Answers}
 use Rattle.stream_spec.specs.Held.{poolBytes-append}
-use Rattle.stream_spec.specs.Invariant.{Inv, Holds, resume, open-nil, sound-all, passed-on, passing, u32At-slice, holds-sound, holds-step, holds-start, created-fresh, holds-created}
+use Rattle.stream_spec.specs.Invariant.{Inv, Holds, open-nil, left-read, sound-all, passed-on, passing, u32At-slice, holds-sound, holds-step, holds-start, created-fresh, holds-created}
 
--- ---- one call of next
+-- ---- one call of next, by what is left to read
 
 lengths-bytes : (s : List ℕ) (ts : List Span) → AllIn (length s) ts → lengths ts ≡ poolBytes (these s ts)
 unfolding lengths
@@ -36,55 +39,104 @@ and-false : (a : Bool) → (a && false) ≡ false
 and-false true = refl
 and-false false = refl
 
-module _ (r : Stream) (l : Lent) (acc : List ℕ) (handed : List Event) (over : Bool) (from : ℕ) (p : Inv (passed r from) l acc handed 4 over) (fin : r .finished ≡ true) where
+-- what a next leaves where this is left to read, and these are the names of the whole document
+abbrev Says : Stream → Lent → List ℕ → Pool → Reading → Left → Type 0
+Says r l rows names (reads e n rd) x =
+    (length rows < 8 * length e → x ≡ unchanged r l rows (Reply.refused rowsFull 0)) × (8 * length e ≤ length rows → Room names l → x .reply ≡ gives (length e))
+Says r l rows names (ended p) x = x .reply ≡ end
+Says r l rows names (stopped n d) x = x ≡ unchanged r l rows (Reply.refused n d)
+
+pub some-byte : (k : ℕ) → (k ≡ 0 → ⊥) → 1 ≤ k
+some-byte zero f = absurd (f refl)
+some-byte (suc k) f = omega arith
+
+module _ (r : Stream) (l : Lent) (acc : List ℕ) (handed : List Event) (over : Bool) (from : ℕ) (p : Inv (passed r from) l acc handed 4 over) where
   abbrev s : List ℕ
   s = slice from (r .end) (l .window)
 
-  from-ends : (rows : List ℕ) (last : Pool) → Tells (readS (p .pool) s) [] last → nextFrom r l rows from .reply ≡ end
+  abbrev is : Items
+  is = event all (length (p .pool)) s
+
+  abbrev ts : List Span
+  ts = adds (r .names) is
+
+  abbrev later : Pool
+  later = poolOf s (p .pool) is
+
+  -- past the header, with the grammar's rows
+  pub from-items : (rows : List ℕ) → nextFrom r l rows from
+      ≡ cond (r .finished && eqb from (r .end)) (unchanged (passed r from) l rows end) (byOutcome r l rows from is (outcome (r .finished) is))
   unfolding nextFrom
-  from-ends rows last t =
-      rw (fin, eq-eqb from (r .end) (omega (arith, none-comes (p .pool) s last t, length-slice from (r .end) (l .window) (p .placed), p .ordered)))
+  from-items rows = rw (sound-all (p .pool) (r .names) (r .bytes) (l .table) (l .store) (p .held), p .held .counts)
 
-  hand-gives : (rows : List ℕ) (is : Items) (n : ℕ) (ts : List Span) → count is ≤ length rows / 8 → 2 * (r .names + length ts) ≤ length (l .table)
-      → r .bytes + lengths ts ≤ length (l .store) → handOut r l rows from is n ts .reply ≡ gives (count is)
-  unfolding handOut given
-  hand-gives rows is n ts a b c =
-      rw (le-ltb (length rows / 8) (count is) a, le-ltb (length (l .table)) (2 * (r .names + length ts)) b, le-ltb (length (l .store)) (r .bytes + lengths ts) c)
+  -- the pool after the event, and after the document
+  grew : later ≡ p .pool ++ these s ts
+  grew = rw (p .held .counts) (pool-adds s (p .pool) is)
 
-  from-gives : (rows : List ℕ) (e : Event) (es : List Event) (last : Pool) → Room last l → 8 * length e ≤ length rows → Tells (readS (p .pool) s) (e ∷ es) last
-      → nextFrom r l rows from .reply ≡ gives (length e)
-  unfolding nextFrom byOutcome
-  from-gives rows e es last room enough t =
-      let c : Comes (p .pool) s e last = comes (p .pool) s e es last t in
-      let is : Items = event all (length (p .pool)) s in
-      let ts : List Span = adds (r .names) is in
-      let counts : r .names ≡ length (p .pool) = p .held .counts in
-      let e₀ : event (sound (r .names) (l .table) (length (l .store))) (r .names) s ≡ is =
-      rw (sound-all (p .pool) (r .names) (r .bytes) (l .table) (l .store) (p .held), counts) in
-      let ls : length s ≡ r .end - from = length-slice from (r .end) (l .window) (p .placed) in
-      let grew : poolOf s (p .pool) is ≡ p .pool ++ these s ts = rw counts (pool-adds s (p .pool) is) in
-      let l₁ : length last ≡ length (p .pool) + length ts + length (c .more) =
-      ap length (c .within) ∙ length-append (poolOf s (p .pool) is) (c .more) ∙ rw (grew, grown s (p .pool) ts) in
-      let l₂ : poolBytes last ≡ poolBytes (p .pool) + poolBytes (these s ts) + poolBytes (c .more) =
-      ap poolBytes (c .within) ∙ poolBytes-append (poolOf s (p .pool) is) (c .more) ∙ rw (grew, poolBytes-append (p .pool) (these s ts)) in
-      let l₃ : lengths ts ≡ poolBytes (these s ts) = lengths-bytes s ts (adds-in s [] 1 (r .names) (length (p .pool)) is _ (agree-event s [] all (length (p .pool)))) in
-      let n : count is ≡ length e = count-rows s (p .pool) is ∙ ap length (c .is-it) in
-      let u : r .bytes ≡ poolBytes (p .pool) = p .held .used in
-      let gave : handOut r l rows from is (c .len) ts .reply ≡ gives (length e) =
-      hand-gives rows is (c .len) ts (omega arith) (omega (arith, room .pairs-fit)) (omega (arith, room .bytes-fit)) ∙ ap gives n in
-      let w : outcome (r .finished) is ≡ complete (c .len) = ap (λ (b : Bool). outcome b is) fin ∙ c .whole-at in
-      let going : (r .finished && eqb from (r .end)) ≡ false = rw (ne-eqb from (r .end) (λ z. omega (arith, c .some-bytes))) (and-false (r .finished)) in
-      rw (going, e₀, w) gave
+  pub grew-pairs : length later ≡ r .names + length ts
+  grew-pairs = ap length grew ∙ grown s (p .pool) ts ∙ rw (p .held .counts)
 
--- what is left to tell
-tells-left : (r : Stream) (l : Lent) (acc : List ℕ) (handed : List Event) (header : ℕ) (over : Bool) (h : Inv r l acc handed header over) (es : List Event) (last : Pool)
-    → Tells (read acc) es last → Tells (resume (r .header) (h .pool) (slice (r .start) (r .end) (l .window))) (drop (length handed) es) last
-tells-left r l acc handed header over h es last t =
-    let s : List ℕ = slice (r .start) (r .end) (l .window) in
-    let e : read acc ≡ chain handed (h .ns) (resume (r .header) (h .pool) s) = ap read (sym (append-nil acc)) ∙ h .onward [] (open-nil (r .finished)) ∙ rw (append-nil s) in
-    tells-rest handed (h .ns) (resume (r .header) (h .pool) s) es last (h .as-many) (rw e at t)
+  pub grew-bytes : poolBytes later ≡ r .bytes + lengths ts
+  grew-bytes =
+      ap poolBytes grew ∙ poolBytes-append (p .pool) (these s ts)
+      ∙ rw (p .held .used, lengths-bytes s ts (adds-in s [] 1 (r .names) (length (p .pool)) is _ (agree-event s [] all (length (p .pool)))))
 
-state-good : (t : Trace) → Holds t → stateBad (t .stream) (t .lent) ≡ false
+  pub names-more : (n : ℕ) → Reads-on (p .pool) s (r .finished) n is → (u : List ℕ) → Open (r .finished) u → (more : Pool) × (namesOf (acc ++ u) ≡ later ++ more)
+  names-more n on u v =
+      let g = names-grow (readS later (drop n s ++ u)) later (drop n s ++ u) in
+      (g .0, p .names-on u v ∙ names-on (p .pool) s (r .finished) n is on u v ∙ g .1)
+
+  module _ (fin : r .finished ≡ true) (rows : List ℕ) where
+    from-is : (o : Outcome) → (from ≡ r .end → ⊥) → outcome true is ≡ o → nextFrom r l rows from ≡ byOutcome r l rows from is o
+    from-is o ne w =
+        let w′ : outcome (r .finished) is ≡ o = ap (λ (b : Bool). outcome b is) fin ∙ w in
+        from-items rows ∙ rw (ne-eqb from (r .end) ne, and-false (r .finished), w′)
+
+    hand-few : (n : ℕ) → length rows / 8 < count is → handOut r l rows from is n ts ≡ unchanged r l rows (Reply.refused rowsFull 0)
+    unfolding handOut
+    hand-few n a = rw (lt-ltb (length rows / 8) (count is) a)
+
+    hand-gives : (n : ℕ) → count is ≤ length rows / 8 → 2 * (r .names + length ts) ≤ length (l .table) → r .bytes + lengths ts ≤ length (l .store)
+        → handOut r l rows from is n ts .reply ≡ gives (count is)
+    unfolding handOut given
+    hand-gives n a b c =
+        rw (le-ltb (length rows / 8) (count is) a, le-ltb (length (l .table)) (2 * (r .names + length ts)) b, le-ltb (length (l .store)) (r .bytes + lengths ts) c)
+
+    from-says : Says r l rows (namesOf acc) (readS (p .pool) s) (nextFrom r l rows from)
+    unfolding byOutcome
+    from-says = byTest (eqb from (r .end)) at-end (λ b. go (eqb-false from (r .end) b) (outcome true is) refl)
+      where
+        ls : length s ≡ r .end - from
+        ls = length-slice from (r .end) (l .window) (p .placed)
+
+        at-end : eqb from (r .end) ≡ true → Says r l rows (namesOf acc) (readS (p .pool) s) (nextFrom r l rows from)
+        at-end b =
+            let z : s ≡ [] = rw (eqb-true from (r .end) b) (slice-empty (r .end) (l .window)) in
+            let e : readS (p .pool) s ≡ ended (p .pool) = ap (readS (p .pool)) z ∙ unfold readS readF in refl in
+            rw e (unfold nextFrom in rw (fin, b))
+
+        go : (from ≡ r .end → ⊥) → (o : Outcome) → outcome true is ≡ o → Says r l rows (namesOf acc) (readS (p .pool) s) (nextFrom r l rows from)
+        go ne (complete n) o =
+            let on : Reads-on (p .pool) s true n is = complete-reads-on (p .pool) s true n o in
+            let e : readS (p .pool) s ≡ reads (rowsOf s (p .pool) is) n (readS later (drop n s)) = rw (append-nil s, append-nil (drop n s)) at (on .onward [] refl) in
+            let g = names-more n (rw fin on) [] (open-nil (r .finished)) in
+            let names : namesOf acc ≡ later ++ g .0 = ap namesOf (sym (append-nil acc)) ∙ g .1 in
+            let c : count is ≡ length (rowsOf s (p .pool) is) = count-rows s (p .pool) is in
+            rw e (
+              λ few. from-is (complete n) ne o ∙ hand-few n (omega arith),
+              λ enough room.
+                  ap (λ (x : Left). x .reply) (from-is (complete n) ne o)
+                  ∙ hand-gives n (omega arith) (omega (arith, room .pairs-fit, ap length names, length-append later (g .0), grew-pairs))
+                  (omega (arith, room .bytes-fit, ap poolBytes names, poolBytes-append later (g .0), grew-bytes))
+                  ∙ ap gives c,
+            )
+        go ne incomplete o = absurd (true≢false (incomplete-last (p .pool) s true o .0))
+        go ne (bad n d) o =
+            let e : readS (p .pool) s ≡ stopped n d = rw (append-nil s) at (bad-stops-on (p .pool) s true n d (λ _. some-byte (length s) (λ z. ne (omega (arith, p .ordered, ls)))) o [] refl) in
+            rw e (from-is (bad n d) ne o)
+
+-- a trace that holds is in no bad state
+pub state-good : (t : Trace) → Holds t → stateBad (t .stream) (t .lent) ≡ false
 unfolding stateBad
 state-good t h =
     rw (
@@ -94,35 +146,59 @@ state-good t h =
       le-ltb (length (t .lent .store)) (t .stream .bytes) (h .held .store-fits),
     )
 
-header-there : (s : List ℕ) (es : List Event) (last : Pool) → Tells (read s) es last → (4 ≤ length s) × (u32At s 0 ≡ magic)
+-- fewer than four bytes are no header, and other bytes are none
+pub few-read : (s : List ℕ) → length s < 4 → read s ≡ stopped headerShort 0
 unfolding read header
-header-there s es last t =
-    byTest (ltb (length s) 4) (λ a. absurd (rw a at t))
-    (λ a. byTest (eqb (u32At s 0) magic) (λ c. (ltb-false (length s) 4 a, eqb-true (u32At s 0) magic c)) (λ c. absurd (rw (a, c) at t)))
+few-read s h = rw (lt-ltb (length s) 4 h)
 
--- a call of next passes the header, or has passed it
-abbrev Passes : Trace → List ℕ → Type 0
-Passes t rows = (from : ℕ) × Inv (passed (t .stream) from) (t .lent) (t .accepted) (t .handed) 4 (t .ended) × (next (t .stream) (t .lent) rows ≡ nextFrom (t .stream) (t .lent) rows from)
+pub other-read : (s : List ℕ) → 4 ≤ length s → (u32At s 0 ≡ magic → ⊥) → read s ≡ stopped invalidMagic (u32At s 0)
+unfolding read header
+other-read s a b = rw (le-ltb (length s) 4 a, ne-eqb (u32At s 0) magic b)
 
-passes : (t : Trace) → Holds t → sizesBad (t .lent) ≡ false → (rows : List ℕ) (es : List Event) (last : Pool) → Tells (read (t .accepted)) es last → Passes t rows
-unfolding next nextHeader checked
-passes t h b rows es last q =
-    let r : Stream = t .stream in
-    let l : Lent = t .lent in
-    let s : List ℕ = slice (r .start) (r .end) (l .window) in
-    let ls : length s ≡ r .end - r .start = length-slice (r .start) (r .end) (l .window) (h .placed) in
-    let ok : stateBad r l ≡ false = state-good t h in
-    let left : Tells (resume (r .header) (h .pool) s) (drop (length (t .handed)) es) last = tells-left r l (t .accepted) (t .handed) (t .header) (t .ended) h es last q in
-    byTest (r .header)
-    (λ hd. (r .start, passed-on r l (t .accepted) (t .handed) (t .header) (t .ended) h hd, rw (b, ok, hd)))
-    (λ hd.
-    let w : Tells (read s) (drop (length (t .handed)) es) last = rw hd at left in
-    let g : (4 ≤ length s) × (u32At s 0 ≡ magic) = header-there s (drop (length (t .handed)) es) last w in
-    let m : u32At (l .window) (r .start) ≡ magic = sym (u32At-slice (l .window) (r .start) (r .end) (omega arith)) ∙ g .1 in (
-      r .start + 4,
-      passing r l (t .accepted) (t .handed) (t .header) (t .ended) h hd (omega arith) m,
-      rw (b, ok, hd, le-ltb (r .end - r .start) 4 (omega arith), eq-eqb (u32At (l .window) (r .start)) magic m),
-    ))
+module _ (t : Trace) (h : Holds t) (ok : sizesBad (t .lent) ≡ false) (rows : List ℕ) where
+  abbrev r : Stream
+  r = t .stream
+
+  abbrev l : Lent
+  l = t .lent
+
+  abbrev waiting : List ℕ
+  waiting = slice (r .start) (r .end) (l .window)
+
+  -- what is left to read
+  abbrev rest : Reading
+  rest = left (length (t .handed)) (read (t .accepted))
+
+  pub next-good : next r l rows ≡ cond (r .header) (nextFrom r l rows (r .start)) (nextHeader r l rows)
+  unfolding next checked
+  next-good = rw (ok, state-good t h)
+
+  module _ (fin : t .stream .finished ≡ true) where
+    says-from : (from : ℕ) → Inv (passed r from) l (t .accepted) (t .handed) 4 (t .ended) → next r l rows ≡ nextFrom r l rows from
+        → Says r l rows (namesOf (t .accepted)) rest (next r l rows)
+    says-from from p e =
+        let s : List ℕ = slice from (r .end) (l .window) in
+        let q : rest ≡ readS (p .pool) s = rw (append-nil (t .accepted), append-nil s) at (left-read (passed r from) l (t .accepted) (t .handed) 4 (t .ended) p [] (open-nil (r .finished))) in
+        rw (q, e) (from-says r l (t .accepted) (t .handed) (t .ended) from p fin rows)
+
+    next-says : Says r l rows (namesOf (t .accepted)) rest (next r l rows)
+    next-says =
+        byTest (r .header)
+        (λ hd. says-from (r .start) (passed-on r l (t .accepted) (t .handed) (t .header) (t .ended) h hd) (next-good ∙ rw hd))
+        (λ hd.
+        let q : rest ≡ read waiting =
+        rw (append-nil (t .accepted), append-nil waiting, hd) at (left-read r l (t .accepted) (t .handed) (t .header) (t .ended) h [] (open-nil (r .finished))) in
+        byTest (ltb (r .end - r .start) 4)
+        (λ a. rw (q, few-read waiting (omega (arith, ls, ltb-true (r .end - r .start) 4 a))) (next-good ∙ rw hd (unfold nextHeader in rw (a, fin))))
+        (λ a.
+        let four : 4 ≤ r .end - r .start = ltb-false (r .end - r .start) 4 a in
+        let m : u32At waiting 0 ≡ u32At (l .window) (r .start) = u32At-slice (l .window) (r .start) (r .end) (omega arith) in
+        byTest (eqb (u32At (l .window) (r .start)) magic)
+        (λ b. says-from (r .start + 4) (passing r l (t .accepted) (t .handed) (t .header) (t .ended) h hd four (eqb-true _ _ b)) (next-good ∙ rw hd (unfold nextHeader in rw (a, b))))
+        (λ b. rw (q, other-read waiting (omega (arith, ls)) (λ z. eqb-false _ _ b (sym m ∙ z)), m) (next-good ∙ rw hd (unfold nextHeader in rw (a, b))))))
+      where
+        ls : length waiting ≡ r .end - r .start
+        ls = length-slice (r .start) (r .end) (l .window) (h .placed)
 
 -- ---- what no call changes
 
@@ -242,46 +318,58 @@ handed-more : (hs : List Event) (l : Lent) (rows : List ℕ) (n : ℕ) (q : Repl
 unfolding handedBy
 handed-more hs l rows n q e = rw (e, length-append)
 
-drop-more : (e : Event) (rem es : List Event) (k : ℕ) → e ∷ rem ≡ drop k es → rem ≡ drop (k + 1) es
-drop-more e rem es k d = ap (λ (x : List Event). drop 1 x) d ∙ drop-drop 1 k es
-
--- once finished, with room for the last pool
-delivers : (rem : List Event) (t : Trace) (es : List Event) (last : Pool) → Holds t → t .stream .finished ≡ true → sizesBad (t .lent) ≡ false → Room last (t .lent)
-    → Tells (read (t .accepted)) es last → rem ≡ drop (length (t .handed)) es → Delivers rem t
-unfolding step afterNext
-delivers [] t es last h fin ok room q d = λ rows.
-    let p = passes t h ok rows es last q in
-    let left : Tells (readS (p .1 .pool) (slice (p .0) (t .stream .end) (t .lent .window))) [] last =
-    rw (← d) at (tells-left (passed (t .stream) (p .0)) (t .lent) (t .accepted) (t .handed) 4 (t .ended) (p .1) es last q) in
-    ap (λ (x : Left). x .reply) (p .2) ∙ from-ends (t .stream) (t .lent) (t .accepted) (t .handed) (t .ended) (p .0) (p .1) fin rows last left
-delivers (e ∷ rem) t es last h fin ok room q d = λ rows enough.
-    let p = passes t h ok rows es last q in
-    let left : Tells (readS (p .1 .pool) (slice (p .0) (t .stream .end) (t .lent .window))) (e ∷ rem) last =
-    rw (← d) at (tells-left (passed (t .stream) (p .0)) (t .lent) (t .accepted) (t .handed) 4 (t .ended) (p .1) es last q) in
-    let g : next (t .stream) (t .lent) rows .reply ≡ gives (length e) =
-    ap (λ (x : Left). x .reply) (p .2) ∙ from-gives (t .stream) (t .lent) (t .accepted) (t .handed) (t .ended) (p .0) (p .1) fin rows e rem last room enough left in
-    let k : Kept (t .stream) (t .lent) (next (t .stream) (t .lent) rows) = next-keeps (t .stream) (t .lent) rows in
-    let h′ : Holds (step t (call-next rows)) = holds-step t (call-next rows) h in
-    let more : length (step t (call-next rows) .handed) ≡ length (t .handed) + 1 = handed-more (t .handed) _ _ (length e) _ g in
-    let all : events (read (t .accepted)) ≡ es = tells-events (read (t .accepted)) es last q in (
-      g,
-      front _ _ es (holds-sound (step t (call-next rows)) h′ .beginning ∙ all) ∙ ap (λ (n : ℕ). take n es) more
-          ∙ sym (one-more (t .handed) _ es e rem (holds-sound t h .beginning ∙ all) d),
-      delivers rem (step t (call-next rows)) es last h′ (k .same-finished ∙ fin)
-          (sizes-stay-good _ (t .lent) (k .same-sizes) ok) (room-stays last _ (t .lent) (k .same-sizes) room) q
-          (drop-more e rem es (length (t .handed)) d ∙ ap (λ (n : ℕ). drop n es) (sym more)),
+-- once finished, with room for the names
+answers : (rd : Reading) (t : Trace) → Holds t → t .stream .finished ≡ true → sizesBad (t .lent) ≡ false → Room (namesOf (t .accepted)) (t .lent)
+    → left (length (t .handed)) (read (t .accepted)) ≡ rd → Answers rd t
+unfolding step afterNext events
+answers (reads e n rd) t h fin ok room q = λ rows.
+    let says : Says (t .stream) (t .lent) rows (namesOf (t .accepted)) (reads e n rd) (next (t .stream) (t .lent) rows) = rw q at (next-says t h ok rows fin) in (
+      says .0,
+      λ enough.
+          let g : next (t .stream) (t .lent) rows .reply ≡ gives (length e) = says .1 enough room in
+          let k : Kept (t .stream) (t .lent) (next (t .stream) (t .lent) rows) = next-keeps (t .stream) (t .lent) rows in
+          let h′ : Holds (step t (call-next rows)) = holds-step t (call-next rows) h in
+          let more : length (step t (call-next rows) .handed) ≡ length (t .handed) + 1 = handed-more (t .handed) _ _ (length e) _ g in
+          let one : length (step t (call-next rows) .handed) ≡ suc (length (t .handed)) = omega (arith, more) in
+          let es : List Event = events (read (t .accepted)) in
+          let d : e ∷ events rd ≡ drop (length (t .handed)) es = sym (ap events q) ∙ left-events (length (t .handed)) (read (t .accepted)) in (
+            g,
+            front _ _ es (holds-sound (step t (call-next rows)) h′ .beginning) ∙ ap (λ (n : ℕ). take n es) more
+                ∙ sym (one-more (t .handed) _ es e (events rd) (holds-sound t h .beginning) d),
+            answers rd (step t (call-next rows)) h′ (k .same-finished ∙ fin)
+                (sizes-stay-good _ (t .lent) (k .same-sizes) ok) (room-stays (namesOf (t .accepted)) _ (t .lent) (k .same-sizes) room)
+                (ap (λ (n : ℕ). left n (read (t .accepted))) one ∙ left-more (length (t .handed)) (read (t .accepted)) e n rd q),
+          ),
     )
+answers (ended p) t h fin ok room q = λ rows. rw q at (next-says t h ok rows fin)
+answers (stopped n d) t h fin ok room q = λ rows. rw q at (next-says t h ok rows fin)
 
 -- the chunk reader agrees with the grammar, whatever the document: once all its bytes are accepted and a finish was not
--- refused, the events that the grammar reads of it and that were not handed out come one by one, and then End
-pub agreement : (r : Stream) (l : Lent) → create l ≡ created r → (cs : List Call) (names : Pool)
-    → lastPool (read (run (start r l) cs .accepted)) ≡ some names → Room names l → run (start r l) cs .finished ≡ true
-    → Delivers (drop (length (run (start r l) cs .handed)) (events (read (run (start r l) cs .accepted)))) (run (start r l) cs)
-agreement r l c cs names e room fin =
+-- refused, the events that the grammar reads of it and that were not handed out come one by one, and then End, or the
+-- refusal at which the grammar stops
+pub agreement : (r : Stream) (l : Lent) → create l ≡ created r → (cs : List Call) → Room (namesOf (run (start r l) cs .accepted)) l → run (start r l) cs .finished ≡ true
+    → Answers (left (length (run (start r l) cs .handed)) (read (run (start r l) cs .accepted))) (run (start r l) cs)
+agreement r l c cs room fin =
     let t : Trace = run (start r l) cs in
     let f = created-fresh r l c in
     let at-start : Holds (start r l) = rw (f .is-fresh) (holds-start l) in
     let same : Same-sizes (t .lent) l = run-sizes cs (start r l) at-start in
     let marked : start r l .finished ≡ r .finished = rw (f .is-fresh) in
-    delivers _ t (events (read (t .accepted))) names (holds-created r l c cs) (sym (run-finished cs (start r l) at-start marked) ∙ fin)
-    (sizes-stay-good (t .lent) l same (f .sizes-good)) (room-stays names (t .lent) l same room) (tells-own (read (t .accepted)) names e) refl
+    answers _ t (holds-created r l c cs) (sym (run-finished cs (start r l) at-start marked) ∙ fin)
+    (sizes-stay-good (t .lent) l same (f .sizes-good)) (room-stays (namesOf (t .accepted)) (t .lent) l same room) refl
+
+-- of a document that is read to its end, so that demand 3 can be told of its events alone
+delivers : (rd : Reading) (t : Trace) (names : Pool) → lastPool rd ≡ some names → Answers rd t → Delivers (events rd) t
+unfolding events lastPool
+delivers (reads e n rd) t names h a = λ rows enough. let b = a rows .1 enough in (b .0, b .1, delivers rd (step t (call-next rows)) names h (b .2))
+delivers (ended p) t names h a = a
+delivers (stopped n d) t names h a = absurd (let z : _≡_ {A = ℕ} 0 1 = cc h in omega arith)
+
+pub agreement-ended : (r : Stream) (l : Lent) → create l ≡ created r → (cs : List Call) (names : Pool)
+    → lastPool (read (run (start r l) cs .accepted)) ≡ some names → Room names l → run (start r l) cs .finished ≡ true
+    → Delivers (drop (length (run (start r l) cs .handed)) (events (read (run (start r l) cs .accepted)))) (run (start r l) cs)
+agreement-ended r l c cs names e room fin =
+    let t : Trace = run (start r l) cs in
+    let k : ℕ = length (t .handed) in
+    rw (← left-events k (read (t .accepted)))
+    (delivers (left k (read (t .accepted))) t names (left-pool k (read (t .accepted)) ∙ e) (agreement r l c cs (rw (names-of-last (t .accepted) names e) room) fin))

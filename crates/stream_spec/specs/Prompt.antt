@@ -1,17 +1,17 @@
--- No NeedMore holds back an event that could be handed out.
+-- No NeedMore holds back an event that could be handed out, or a refusal.
 use mathlib.Core.Bool.{Bool, false, true≢false}
 use mathlib.Core.List.{List, [], _∷_, _++_, append-nil}
+use mathlib.Core.Logic.{inl}
 use mathlib.Core.Path.{_≡_, refl, sym, ap, _∙_}
-use Prim.Native.Nat.{ℕ, _+_, _-_, _≤_, _<_}
+use Prim.Native.Nat.{ℕ, _+_, _-_, _≤_}
 use native.Mathlib.Omega.{arith}
-use borrow.Author.Tests.{ltb-false, eqb-false, lt-ltb, le-leb, lt-leb}
+use borrow.Author.Tests.{ltb-false, eqb-false, le-leb, lt-leb}
 use lib.ListN.{length, drop}
 use lib.Seq.{slice, length-slice, drop-append-seam}
 use lib.Dec.{ltb}
-use Rattle.wire.specs.Header as Header
 use Rattle.event.specs.Row.{Event}
 use Rattle.grammar.specs.Grammar.{event}
-use Rattle.grammar.specs.Document.{all, Reading, reads, ended, stopped, read, events, sizes, total}
+use Rattle.grammar.specs.Document.{all, Reading, reads, ended, stopped, read, events, sizes, left, total}
 use Rattle.grammar.specs.Choice.{byTest}
 use Rattle.grammar.specs.Steps.{chain, events-chain}
 use Rattle.grammar.specs.Outcomes.{Last, incomplete-last}
@@ -19,8 +19,8 @@ use Rattle.grammar.specs.Scan.{sound}
 use Rattle.stream_spec.specs.Stream.{Stream, Lent, Left, Reply, needMore, end, created, sizesBad, create, given, passed, nextFrom, next}
 use Rattle.stream_spec.specs.Branches.{next-by, nextFrom-by}
 use Rattle.stream_spec.specs.Calls.{Call, call-next, Trace, handedBy, headerBy, afterNext, step, run, start, waits, Prompt}
-use Rattle.stream_spec.specs.Invariant.{Inv, Holds, resume, open-nil, total-snoc, sound-all, passed-on, passing, few-accepted, holds-start, created-fresh, holds-created}
-use Rattle.stream_spec.specs.Lively.{run-sizes, run-finished, sizes-stay-good}
+use Rattle.stream_spec.specs.Invariant.{Inv, Holds, resume, open-nil, left-read, total-snoc, sound-all, passed-on, passing, few-accepted, holds-start, created-fresh, holds-created}
+use Rattle.stream_spec.specs.Lively.{few-read, run-sizes, run-finished, sizes-stay-good}
 
 -- ---- the invariant, where at most one event is left
 
@@ -56,15 +56,18 @@ at-most-one r l acc handed header over h w e es q =
     let lengths : sizes (read acc) ≡ h .ns ++ (waits r ∷ []) = rw is-chain (sizes-all handed (h .ns) rest (h .as-many)) ∙ ap (λ (x : List ℕ). h .ns ++ x) (at-most .1) in
     (at-most .0, rw (lengths, total-snoc (h .ns) (waits r)) (omega (arith, h .sum)))
 
+-- what is left, as it was found
+awaited : (r : Stream) (l : Lent) (acc : List ℕ) (handed : List Event) (header : ℕ) (over : Bool) (h : Inv r l acc handed header over)
+    → Last (waits r) (resume (r .header) (h .pool) (slice (r .start) (r .end) (l .window))) → Last (waits r) (left (length handed) (read acc))
+awaited r l acc handed header over h w =
+    let e : left (length handed) (read acc) ≡ resume (r .header) (h .pool) (slice (r .start) (r .end) (l .window)) =
+    rw (append-nil acc, append-nil (slice (r .start) (r .end) (l .window))) at (left-read r l acc handed header over h [] (open-nil (r .finished))) in
+    rw e w
+
 -- ---- the answers of next
 
 no-refusal : {n d : ℕ} → Reply.refused n d ≡ needMore → ⊥
 no-refusal q = let z : _≡_ {A = ℕ} 0 1 = cc q in omega arith
-
--- fewer than four bytes are no header, and nothing is read of them
-few-read : (s : List ℕ) → length s < 4 → read s ≡ stopped 1 0
-unfolding read Header.header
-few-read s h = rw (lt-ltb (length s) 4 h)
 
 window-large : (l : Lent) → sizesBad l ≡ false → 64 ≤ length (l .window)
 unfolding sizesBad
@@ -93,6 +96,7 @@ module _ (t : Trace) (rows : List ℕ) (h : Holds t) (ok : sizesBad (t .lent) �
         all-but-last =
             rw (le-leb 4 (length (t .accepted)) (omega (arith, p .sum)))
             (at-most-one (passed r from) l (t .accepted) (t .handed) 4 (t .ended) p (rw ls at (g .1)));
+        awaits = awaited (passed r from) l (t .accepted) (t .handed) 4 (t .ended) p (rw ls at (g .1));
       })
       (λ n _ _ _ _ _ q. absurd (let z : _≡_ {A = ℕ} 0 1 = cc q in omega arith))
 
@@ -106,13 +110,14 @@ module _ (t : Trace) (rows : List ℕ) (h : Holds t) (ok : sizesBad (t .lent) �
       (λ hd. from-prompt (r .start) (passed-on r l (t .accepted) (t .handed) (t .header) (t .ended) h hd))
       (λ hd unfin few q.
       let ls : length s ≡ r .end - r .start = length-slice (r .start) (r .end) (l .window) (h .placed) in
-      let nothing-left : Last (waits r) (resume (r .header) (h .pool) s) = rw (hd, few-read s (omega arith)) tt in
+      let nothing-left : Last (waits r) (resume (r .header) (h .pool) s) = rw (hd, few-read s (omega arith)) (inl refl, refl) in
       record {
         unfinished = mark ∙ unfin;
         feedable = omega (arith, window-large l ok);
         all-but-last =
             rw (lt-leb 4 (length (t .accepted)) (few-accepted r l (t .accepted) (t .handed) (t .header) (t .ended) h hd few))
             (at-most-one r l (t .accepted) (t .handed) (t .header) (t .ended) h nothing-left);
+        awaits = awaited r l (t .accepted) (t .handed) (t .header) (t .ended) h nothing-left;
       })
       (λ hd four m. from-prompt (r .start + 4) (passing r l (t .accepted) (t .handed) (t .header) (t .ended) h hd four m))
 

@@ -2,7 +2,7 @@
 use mathlib.Core.List.{List, [], _∷_, _++_, map}
 use mathlib.Core.Path.{_≡_, refl}
 use Prim.Native.Nat.{ℕ}
-use lib.ListN.{take, drop, replicate}
+use lib.ListN.{length, take, drop, replicate}
 use Rattle.wire.specs.Header as Header
 use Rattle.wire.specs.Token as Token
 use Rattle.utf8.specs.Utf8 as U
@@ -108,6 +108,51 @@ again =
       shows = record { replied = took 5 ∷ refused 9 15 ∷ refused 9 15 ∷ done ∷ refused 9 15 ∷ []; events = [] };
     }
 
+-- a document in one feed: what a next says before a finish and what it says after it, twice
+abbrev told : List ℕ → Reply → Reply → Case
+told input before after =
+    record {
+      lent = lent;
+      calls = call-feed input ∷ next ∷ call-finish ∷ next ∷ next ∷ [];
+      shows = record { replied = took (length input) ∷ before ∷ done ∷ after ∷ after ∷ []; events = [] };
+    }
+
+-- a start tag `p`, and what follows it
+abbrev tag : List ℕ → List ℕ
+tag rest = H ++ (0x32 ∷ 0xFF ∷ 0xFF ∷ 0x00 ∷ 0x01 ∷ 0x70 ∷ rest)
+
+-- a byte of room is no full window
+abbrev nearly : Case
+nearly =
+    record {
+      lent = lent;
+      calls =
+          call-feed (H ++ (0x24 ∷ 0x01 ∷ 0x00 ∷ replicate 57 0x41)) ∷ next ∷ call-feed (replicate 3 0x41) ∷ next ∷ call-feed (0x41 ∷ []) ∷ next ∷ [];
+      shows = record { replied = took 64 ∷ needMore ∷ took 3 ∷ needMore ∷ took 1 ∷ refused 13 0 ∷ []; events = [] };
+    }
+
+-- 10, then 11, where rows, table and store are all too short
+abbrev scarce : Case
+scarce =
+    record {
+      lent = narrow [] [];
+      calls = call-feed (tag (0x10 ∷ [])) ∷ noRows ∷ next ∷ [];
+      shows = record { replied = took 11 ∷ refused 10 0 ∷ refused 11 0 ∷ []; events = [] };
+    }
+
+-- EndDocument is an event like the others
+abbrev onwards : Case
+onwards =
+    record {
+      lent = lent;
+      calls = call-feed (H ++ (0x11 ∷ 0x10 ∷ 0x11 ∷ [])) ∷ next ∷ next ∷ call-finish ∷ next ∷ next ∷ [];
+      shows =
+          record {
+            replied = took 7 ∷ gives 1 ∷ gives 1 ∷ done ∷ gives 1 ∷ end ∷ [];
+            events = (bare Token.endDocument [] ∷ []) ∷ (bare Token.startDocument [] ∷ []) ∷ (bare Token.endDocument [] ∷ []) ∷ [];
+          };
+    }
+
 unfoldable pub cases : List Case
 cases =
     pieces
@@ -116,6 +161,24 @@ cases =
     ∷ edge lent (gives 1 ∷ end ∷ []) ((bare Token.startTag p ∷ []) ∷ [])
     ∷ edge (narrow [] []) (refused 11 0 ∷ refused 11 0 ∷ []) []
     ∷ edge (narrow (0 ∷ 0 ∷ []) []) (refused 12 0 ∷ refused 12 0 ∷ []) []
+    ∷ scarce
+    ∷ nearly
+    ∷ onwards
+    ∷ told [] needMore (refused 1 0)
+    ∷ told (0x41 ∷ 0x42 ∷ 0x58 ∷ []) needMore (refused 1 0)
+    ∷ told (0x41 ∷ 0x42 ∷ 0x58 ∷ 0x01 ∷ []) (refused 2 0x4142_5801) (refused 2 0x4142_5801)
+    ∷ told H needMore end
+    ∷ told (H ++ (0x24 ∷ 0x00 ∷ [])) needMore (refused 3 0)
+    ∷ told (H ++ (0x24 ∷ 0x00 ∷ 0x02 ∷ 0x41 ∷ [])) needMore (refused 4 0)
+    ∷ told (tag (0x4F ∷ 0x00 ∷ 0x00 ∷ 0x00 ∷ 0x02 ∷ 0x41 ∷ [])) needMore (refused 5 0)
+    ∷ told (H ++ (0x32 ∷ 0x00 ∷ 0x05 ∷ [])) (refused 6 5) (refused 6 5)
+    ∷ told (H ++ (0x32 ∷ 0xFF ∷ 0xFF ∷ 0x00 ∷ 0x01 ∷ 0xC0 ∷ [])) (refused 7 0) (refused 7 0)
+    -- 8 comes after the attribute's name
+    ∷ told (tag (0xEF ∷ [])) needMore (refused 3 0)
+    ∷ told (tag (0xEF ∷ 0xFF ∷ 0xFF ∷ 0x00 ∷ 0x01 ∷ 0x76 ∷ [])) (refused 8 224) (refused 8 224)
+    ∷ told (tag (0x0F ∷ 0x00 ∷ 0x00 ∷ [])) (refused 8 0) (refused 8 0)
+    ∷ told (H ++ (0x0F ∷ [])) (refused 9 15) (refused 9 15)
+    ∷ told (H ++ (0x0B ∷ [])) (refused 9 11) (refused 9 11)
     ∷ []
 
 pub runs : map shown cases ≡ map (λ c. c .shows) cases

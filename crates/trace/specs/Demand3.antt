@@ -15,7 +15,7 @@ use Rattle.writer_spec.specs.Writer as Writer
 use Rattle.stream_spec.specs.Stream.{create}
 use Rattle.stream_spec.specs.Calls.{Trace, run, start}
 use Rattle.stream_spec.specs.Invariant.{trace-sound}
-use Rattle.stream_spec.specs.Lively.{agreement}
+use Rattle.stream_spec.specs.Lively.{agreement-ended}
 use Rattle.trace.specs.RoundTrip.{written-events, written-names}
 use Rattle.trace.specs.Trace.{Made, Demand3-holds}
 
@@ -40,5 +40,5 @@ demand3 r l c cs =
       sound = trace-sound r l c cs;
       exact = λ es m over. trace-sound r l c cs .exact over ∙ made-events es (t .accepted) m;
       lively = λ es m room fin.
-          rw (made-events es (t .accepted) m) at (agreement r l c cs (keptNames es) (made-names es (t .accepted) m) room fin);
+          rw (made-events es (t .accepted) m) at (agreement-ended r l c cs (keptNames es) (made-names es (t .accepted) m) room fin);
     }

@@ -3,3 +3,4 @@ pub mod Written
 pub mod RoundTrip
 pub mod Demand3
 pub mod Example
+pub mod Instance

@@ -13,3 +13,4 @@ pub mod Unrefused
 pub mod Wrote
 pub mod Laws
 pub mod Parts
+pub mod Runs
