@@ -64,7 +64,7 @@ pub struct Query {
     pub name: Vec<u8>,
 }
 
-/// Found (0), done (1) or refused (2); place and names; events and rows; a refusal's number and detail.
+/// Found (0), at the end (1) or refused (2); place and names; events and rows; a refusal's number and detail.
 pub type Told = [usize; 7];
 
 /// An answer of so many words; all but seven are for a test.

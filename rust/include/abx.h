@@ -5,7 +5,7 @@
  *
  * An answer is four words, and is written where answer_len is 4 or more: ABX_DONE and what was asked for; ABX_END; ABX_REFUSED, a
  * refusal's number (1 to 19) and its detail; or ABX_NEED_MORE. A refused call changes nothing else, but for a query, which keeps
- * what it found. A call of the writer takes 1.6 MB of stack.
+ * what it found. A call of the writer takes 1.6 MB of stack, a query 0.5 MB.
  *
  * A row is eight words: kind; name (source, start, length); type; value (source, a, b). A span's source is 0 for the document, the window
  * or the first store, 1 for the name store or the second store. A pool has two words for a name, and an even length, at most 131,070. */
@@ -22,6 +22,8 @@ extern "C" {
 
 enum { ABX_DONE = 0, ABX_END = 1, ABX_REFUSED = 2, ABX_NEED_MORE = 3 };
 
+enum { ABX_FOUND = 0 }; /* of a query, in the place of ABX_DONE */
+
 enum { ABX_ROW = 8, ABX_ANSWER = 4, ABX_QUERY_ANSWER = 7, ABX_STATE = 6 };
 
 /* Whether s is well-formed UTF-8. */
@@ -37,7 +39,7 @@ void abx_slice_create(const uint8_t *document, size_t document_len, const uint32
 void abx_slice_next(size_t at, size_t names, const uint8_t *document, size_t document_len, uint32_t *pool,
                     size_t pool_len, uint32_t *rows, size_t rows_len, size_t *answer, size_t answer_len);
 
-/* Queries answer seven words, where answer_len is 7 or more: DONE (found), END (no more to read) or REFUSED; place, names; the events
+/* Queries answer seven words, where answer_len is 7 or more: FOUND, END (no more to read) or REFUSED; place, names; the events
  * consumed; the rows written; the refusal's number and detail. */
 
 /* The first attribute of this name on the next such element that has it. */

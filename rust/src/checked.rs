@@ -8,10 +8,11 @@ use crate::{library, AbxError, Result};
 
 // ---- answers
 
-/// One of the words below, and three more that depend on it. A query's answer has seven words.
+/// One of the words below, and three more that depend on it. A query's answer has seven words, of which the first is FOUND, END or REFUSED.
 type Answer = [usize; 4];
 
 const DONE: usize = 0;
+const FOUND: usize = 0;
 const END: usize = 1;
 const REFUSED: usize = 2;
 const NEED_MORE: usize = 3;
@@ -119,7 +120,7 @@ pub(crate) fn query(
         }
     };
     let ended = match what {
-        DONE => Ok(true),
+        FOUND => Ok(true),
         END => Ok(false),
         REFUSED => Err(AbxError::refused(number, detail)),
         _ => return Err(UNKNOWN),

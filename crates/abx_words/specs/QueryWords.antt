@@ -1,4 +1,4 @@
--- A query's answer as seven words: 0 found, 1 done, 2 refused; the place and the names; events and rows; a refusal's number and detail.
+-- A query's answer as seven words: 0 found, 1 at the end, 2 refused; the place and the names; events and rows; a refusal's number and detail.
 use mathlib.Core.Bool.{cond}
 use mathlib.Core.List.{List, [], _∷_}
 use mathlib.Core.Path.{_≡_}

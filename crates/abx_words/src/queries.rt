@@ -1,5 +1,6 @@
-// A query's answer is seven words, and is written where there is room for seven: 0 where it was found, 1 where no more is to be read,
-// 2 where the query was refused; the place and the names; the events consumed; the rows written; and a refusal's number and detail.
+// A query's answer is seven words, and is written where there is room for seven: 0 where it was found, 1 where no more is to be read, as
+// at an end, 2 where the query was refused; the place and the names; the events consumed; the rows written; and a refusal's number and
+// detail.
 use slice::queries::Queried;
 use slice::queries::Reached;
 ghost use mathlib.Core.List.{List, [], _∷_};
@@ -10,7 +11,7 @@ ghost use Rattle.abx_words.specs.QueryWords.{toldTo, queryWords};
 
 const FOUND: usize = 0;
 
-const DONE: usize = 1;
+const END: usize = 1;
 
 const REFUSED: usize = 2;
 
@@ -35,7 +36,7 @@ pub fn tell(answer: &mut [usize], queried: Queried)
 {
     match queried {
         Queried::Found(reached) => put(answer, FOUND, reached, 0, 0),
-        Queried::Done(reached) => put(answer, DONE, reached, 0, 0),
+        Queried::Done(reached) => put(answer, END, reached, 0, 0),
         Queried::Refused { refusal, reached } => put(
             answer,
             REFUSED,

@@ -13,4 +13,5 @@ pub mod Said
 pub mod Outcomes
 pub mod Remaining
 pub mod Starred
+pub mod Shapes
 pub mod Stores

@@ -9,13 +9,13 @@ use native.Mathlib.Omega.{arith}
 use borrow.Author.Tests.{lt-ltb, le-ltb, ltb-true, ltb-false, eq-eqb, ne-eqb, eqb-true, eqb-false}
 use lib.Dec.{leb, ltb, eqb}
 use lib.ListN.{length, getD, drop, length-append, length-take}
+use Rattle.wire.specs.Header.{be32}
 use Rattle.wire.specs.Token.{attribute}
 use Rattle.event.specs.Span.{part, span}
 use Rattle.event.specs.Row.{hasName, shape, valueAt, rowAt}
 use Rattle.event.specs.declared.Shape.{Shape}
 use Rattle.event.specs.declared.Shape.the-variants as Shape
 use Rattle.grammar.specs.Choice.{byTest}
-use Rattle.writer_spec.specs.Encode.{be32}
 use Rattle.listing.specs.Text.{newline, space, dash, equals, digit, hex, decimalIn, decimal, field}
 use Rattle.listing.specs.Line.{typeText, valueText, columns, line, endWord, endLine, refusedWord, refusedLine, Left, put}
 

@@ -4,11 +4,11 @@ use mathlib.Core.List.{List, [], _∷_, _++_}
 use Prim.Native.Nat.{ℕ, _*_, _/_}
 use lib.Dec.{leb, ltb, eqb}
 use lib.ListN.{length, drop}
+use Rattle.wire.specs.Header.{be32}
 use Rattle.wire.specs.Token.{attribute}
 use Rattle.wire.specs.Refusal.{outputFull, notRows}
 use Rattle.event.specs.Row.{Row, hasName, rowAt}
 use Rattle.event.specs.Row as Row
-use Rattle.writer_spec.specs.Encode.{be32}
 use Rattle.listing.specs.Ascii.{ascii}
 use Rattle.listing.specs.Text.{newline, space, dash, decimal, field}
 

@@ -12,7 +12,7 @@ use Rattle.grammar.specs.Laws.{agree-event}
 use Rattle.grammar.specs.Added.{AllIn, adds-in}
 use Rattle.grammar.specs.Stores.{sound-sets, pairs-length, copied-length}
 use Rattle.scanner.specs.declared.Pool.{Pool}
-use Rattle.scanner.specs.Tally.{limit}
+use Rattle.wire.specs.Limits.{maxStore}
 use Rattle.scanner.specs.Keep.{moved, carried, Movable, Ended, Writable, Copyable, There, Copied}
 use Rattle.scanner.proofs.Walk.{soundOf}
 use Rattle.scanner.proofs.Keeping.{moved-pairs, carried-pairs, pairs-movable}
@@ -90,7 +90,7 @@ module _ (base : ℕ) (s : List ℕ) (p : Pool) (table rows : List ℕ) (to : �
     new-pairs : drop (2 * p .names) table₁ ≡ pairs 0 ts ++ more
     new-pairs = rw e (drop-sets-here table (2 * p .names) (pairs 0 ts) [] fits)
 
-    pub can-move : (2 * (p .names + added) ≤ length table₁) × ((length store ≤ limit) × Movable added used s (drop (2 * p .names) table₁) store)
+    pub can-move : (2 * (p .names + added) ≤ length table₁) × ((length store ≤ maxStore) × Movable added used s (drop (2 * p .names) table₁) store)
     can-move =
         let l : length table₁ ≡ length table = ap length e ∙ length-sets table (2 * p .names) (pairs 0 ts) in
         (omega (arith, w .keepable .pairs-fit, c .as-many), (c .store-small, rw (new-pairs, c .as-many) (pairs-movable s used ts more store all-in (c .bytes-fit))))

@@ -9,6 +9,7 @@ use lib.Dec.{ltb}
 use lib.ListN.{length, take, drop, getD, length-append, length-drop, List·getD-append, take-append-drop}
 use lib.Seq.{sets, take-all, sets-eq, length-sets, length-take-le, take-at, drop-at, getD-take}
 use Rattle.wire.specs.Refusal.{rowsFull, poolFull, badSize, badState}
+use Rattle.wire.specs.Token.{internedNew}
 use Rattle.grammar.specs.Grammar.{Span, Items, item, whole, lacks, stops, most, counted, countedName, after, event}
 use Rattle.grammar.specs.Added.{after-adds}
 use Rattle.grammar.specs.Scan.{sound, addsItem, adds, pairs, itemWords, words, complete, incomplete, bad, outcome, Measure, measure}
@@ -24,7 +25,7 @@ use Rattle.slice_spec.specs.Stored.{words-front}
 use Rattle.slice_spec.specs.Whole.{countedName-most, countedValue-most}
 use Rattle.slice_spec.specs.Turns.{Turn, passed, halted, passing, turnBy, turn, turnOrRefuse}
 use Rattle.scanner.specs.declared.Pool.{Pool}
-use Rattle.scanner.specs.Tally.{limit}
+use Rattle.wire.specs.Limits.{maxStore}
 use Rattle.scanner.specs.Keep.{Keepable}
 use Rattle.scanner.proofs.Walk.{soundOf}
 use Rattle.scanner.proofs.Passes.{complete-ended}
@@ -181,7 +182,7 @@ module _ (document : List ℕ) (p : Place) (table : List ℕ) (count added : ℕ
   fresh-length = pairs-length (p .at) ts
 
   -- no table has more pairs, and the pool no more names
-  pub names-few : p .names ≤ 65_535
+  pub names-few : p .names ≤ internedNew
   names-few = omega (arith, w .names-fit, w .table-small)
 
   -- a table in whose first pairs the same entries are at hand
@@ -369,7 +370,7 @@ module _ (document : List ℕ) (p : Place) (table : List ℕ) (count added : ℕ
 
 -- ---- the event at a place
 
-pub lent-small : (document : List ℕ) (p : Place) (table : List ℕ) → Fits p document table → length (take (length document - p .at) (drop (p .at) document)) ≤ limit
+pub lent-small : (document : List ℕ) (p : Place) (table : List ℕ) → Fits p document table → length (take (length document - p .at) (drop (p .at) document)) ≤ maxStore
 lent-small document p table r =
     let l = length-drop (p .at) document in
     omega (arith, ap length (take-all (length document - p .at) (drop (p .at) document) (omega arith)), r .at-fits, r .document-small)

@@ -14,7 +14,8 @@ use Rattle.grammar.specs.Reader.{got, short, refused}
 use Rattle.grammar.specs.Grammar.{Ref, new, known, Value, Item, Items, item, whole, lacks, stops, after, attribute, first, attributesF, event}
 use Rattle.grammar.specs.Laws.{RefFits, NameFits, ValueFits, ItemFits, attributesF-more, good-attribute, good-first}
 use Rattle.grammar.specs.Scan.{sound, Outcome, adds, count, lengths, outcome, Measure, measure}
-use Rattle.scanner.specs.Tally.{limit, RefSmall, NameSmall, ValueSmall, ItemSmall, Bounded, Counts, plus}
+use Rattle.wire.specs.Limits.{maxStore}
+use Rattle.scanner.specs.Tally.{RefSmall, NameSmall, ValueSmall, ItemSmall, Bounded, Counts, plus}
 use Rattle.scanner.specs.declared.Pool.{Pool}
 use Rattle.scanner.specs.declared.Tally.{Tally}
 use Rattle.scanner.proofs.Tallies.{lengths-append, item-adds}
@@ -102,7 +103,7 @@ module _ (finished : Bool) (t : Tally) where
 
 -- ---- spans of an input that is not too long are small
 
-module _ (l : ℕ) (h : l ≤ limit) where
+module _ (l : ℕ) (h : l ≤ maxStore) where
   ref-small : (names : ℕ) (r : Ref) → RefFits l names r → RefSmall r
   ref-small names (new t) f = omega arith
   ref-small names (known i) f = tt
@@ -157,7 +158,7 @@ module _ (finished : Bool) (s table : List ℕ) where
               ∙ ap (λ (is : Items). plus t (measure finished (t .pool .names) is)) (sym (rest-more here s (t .pool .names) at h k i n e))
 
     -- the bounds
-    module _ (h : at ≤ length s) (l : length s ≤ limit) (i : Item) (n : ℕ) (e : attribute here (t .pool .names) s at ≡ got i n) where
+    module _ (h : at ≤ length s) (l : length s ≤ maxStore) (i : Item) (n : ℕ) (e : attribute here (t .pool .names) s at ≡ got i n) where
       abbrev fine : (at + 1 ≤ n) × (n ≤ length s) × ItemFits (length s) (t .pool .names) i × (attribute here (t .pool .names) (s ++ []) at ≡ got i n)
       fine = rw e at (good-attribute s [] here (t .pool .names) .law at h)
 
@@ -207,7 +208,7 @@ module _ (finished : Bool) (s table : List ℕ) (p : Pool) where
   unfolding event
   whole-stops n d e = rw e (measure-stops finished (none-yet p) n d ∙ plus-none p _)
 
-  module _ (i : Item) (n : ℕ) (e : first valid (p .names) s 0 ≡ got i n) (l : length s ≤ limit) where
+  module _ (i : Item) (n : ℕ) (e : first valid (p .names) s 0 ≡ got i n) (l : length s ≤ maxStore) where
     abbrev first-fine : (0 + 1 ≤ n) × (n ≤ length s) × ItemFits (length s) (p .names) i × (first valid (p .names) (s ++ []) 0 ≡ got i n)
     first-fine = rw e at (good-first s [] valid (p .names) .law 0 (omega arith))
 

@@ -11,7 +11,7 @@ use Rattle.wire.specs.Refusal.{rowsFull, poolFull, namesFull, badSize, badState
 use Rattle.grammar.specs.Grammar.{Span, Items, event}
 use Rattle.grammar.specs.Scan.{sound, adds, lengths, count, words, complete, incomplete, bad, outcome, Measure, measure}
 use Rattle.scanner.specs.declared.Pool.{Pool}
-use Rattle.scanner.specs.Tally.{limit}
+use Rattle.wire.specs.Limits.{maxStore}
 use Rattle.scanner.specs.Keep.{Writable, Copyable, There, Copied}
 use Rattle.scanner.specs.Step.{Reply, gives, needMore, refused, Left, written, handOut, byOutcome, Ready, readBy, tooLong, outside, step}
 use Rattle.grammar.specs.Choice.{byTest}
@@ -118,28 +118,28 @@ module _ (finished copied : Bool) (base : ℕ) (p : Pool) (used : ℕ) (s table 
 -- ---- 17 and 19
 
 module _ (base len : ℕ) (copied : Bool) (store : ℕ) where
-  pub long-base : limit < base → true ≡ tooLong base len copied store
+  pub long-base : maxStore < base → true ≡ tooLong base len copied store
   unfolding tooLong
-  long-base h = rw (lt-ltb limit (base + len) (omega arith))
+  long-base h = rw (lt-ltb maxStore (base + len) (omega arith))
 
-  pub long-input : base ≤ limit → limit - base < len → true ≡ tooLong base len copied store
+  pub long-input : base ≤ maxStore → maxStore - base < len → true ≡ tooLong base len copied store
   unfolding tooLong
-  long-input g h = rw (lt-ltb limit (base + len) (omega arith))
+  long-input g h = rw (lt-ltb maxStore (base + len) (omega arith))
 
-  module _ (g : base ≤ limit) (h : len ≤ limit - base) where
-    pub long-store : copied ≡ true → ltb limit store ≡ tooLong base len copied store
+  module _ (g : base ≤ maxStore) (h : len ≤ maxStore - base) where
+    pub long-store : copied ≡ true → ltb maxStore store ≡ tooLong base len copied store
     unfolding tooLong
-    long-store c = rw (le-ltb limit (base + len) (omega arith), c)
+    long-store c = rw (le-ltb maxStore (base + len) (omega arith), c)
 
     pub long-none : copied ≡ false → false ≡ tooLong base len copied store
     unfolding tooLong
-    long-none c = rw (le-ltb limit (base + len) (omega arith), c)
+    long-none c = rw (le-ltb maxStore (base + len) (omega arith), c)
 
-  pub not-long : tooLong base len copied store ≡ false → (base + len ≤ limit) × (copied ≡ true → store ≤ limit)
+  pub not-long : tooLong base len copied store ≡ false → (base + len ≤ maxStore) × (copied ≡ true → store ≤ maxStore)
   unfolding tooLong
   not-long e =
-      byTest (ltb limit (base + len)) (λ a. absurd (true≢false (rw a at e)))
-      (λ a. (ltb-false limit (base + len) a, λ c. ltb-false limit store (rw (a, c) at e)))
+      byTest (ltb maxStore (base + len)) (λ a. absurd (true≢false (rw a at e)))
+      (λ a. (ltb-false maxStore (base + len) a, λ c. ltb-false maxStore store (rw (a, c) at e)))
 
 module _ (words names : ℕ) (copied : Bool) (used store : ℕ) where
   pub outside-table : words / 2 < names → true ≡ outside words names copied used store

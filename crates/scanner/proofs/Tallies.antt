@@ -11,7 +11,8 @@ use lib.ListN.{length, length-append}
 use Rattle.grammar.specs.Grammar.{Span, Ref, new, known, Value, Item, most, countedName, countedValue, after}
 use Rattle.grammar.specs.Scan.{addsRef, addsName, addsValue, addsItem, lengths}
 use Rattle.grammar.specs.Choice.{byTest}
-use Rattle.scanner.specs.Tally.{limit, RefSmall, NameSmall, ValueSmall, ItemSmall, Joins, Counts}
+use Rattle.wire.specs.Limits.{maxStore}
+use Rattle.scanner.specs.Tally.{RefSmall, NameSmall, ValueSmall, ItemSmall, Joins, Counts}
 use Rattle.scanner.specs.declared.Tally.{Tally}
 
 pub joins-none : (t : Tally) → Joins 0 0 (t .pool .names) t t
@@ -50,17 +51,17 @@ counts i a b c d j k p r n m =
     }
 
 -- a row adds two names at most, each no longer than the input
-ref-adds : (names : ℕ) (r : Ref) → RefSmall r → (length (addsRef names r) ≤ 1) × (lengths (addsRef names r) ≤ limit)
+ref-adds : (names : ℕ) (r : Ref) → RefSmall r → (length (addsRef names r) ≤ 1) × (lengths (addsRef names r) ≤ maxStore)
 unfolding addsRef lengths
 ref-adds names (new t) h = byTest (ltb names most) (λ e. rw e (omega arith, omega arith)) (λ e. rw e (omega arith, omega arith))
 ref-adds names (known i) h = (omega arith, omega arith)
 
-pub name-adds : (names : ℕ) (o : Option Ref) → NameSmall o → (length (addsName names o) ≤ 1) × (lengths (addsName names o) ≤ limit)
+pub name-adds : (names : ℕ) (o : Option Ref) → NameSmall o → (length (addsName names o) ≤ 1) × (lengths (addsName names o) ≤ maxStore)
 unfolding addsName lengths
 name-adds names none h = (omega arith, omega arith)
 name-adds names (some r) h = ref-adds names r h
 
-value-adds : (names : ℕ) (v : Value) → ValueSmall v → (length (addsValue names v) ≤ 1) × (lengths (addsValue names v) ≤ limit)
+value-adds : (names : ℕ) (v : Value) → ValueSmall v → (length (addsValue names v) ≤ 1) × (lengths (addsValue names v) ≤ maxStore)
 unfolding addsValue lengths
 value-adds names Value.nothing h = (omega arith, omega arith)
 value-adds names Value.empty h = (omega arith, omega arith)
@@ -69,7 +70,7 @@ value-adds names (Value.interned r) h = ref-adds names r h
 value-adds names (Value.word w) h = (omega arith, omega arith)
 value-adds names (Value.pair a b) h = (omega arith, omega arith)
 
-pub item-adds : (names : ℕ) (i : Item) → ItemSmall i → (length (addsItem names i) ≤ 2) × (lengths (addsItem names i) ≤ 2 * limit)
+pub item-adds : (names : ℕ) (i : Item) → ItemSmall i → (length (addsItem names i) ≤ 2) × (lengths (addsItem names i) ≤ 2 * maxStore)
 unfolding addsItem
 item-adds names i h =
     let n = name-adds names (i .name) (h .name-small) in

@@ -21,7 +21,7 @@ use Rattle.grammar.specs.Laws.{RefFits, NameFits, ValueFits, ItemFits, good-att
 use Rattle.grammar.specs.Added.{countedName-adds, countedValue-adds, after-adds}
 use Rattle.grammar.specs.Stores.{sets-append, sound-sets}
 use Rattle.scanner.specs.Answers.{Got, poolGrown}
-use Rattle.scanner.specs.Tally.{limit}
+use Rattle.wire.specs.Limits.{maxStore}
 use Rattle.scanner.specs.declared.Pool.{Pool}
 use Rattle.scanner.specs.Keep.{PoolAfter, RefRoom, NameRoom, ValueRoom, RefPlaced, NamePlaced, ValuePlaced, ItemPlaced, Ended, Keepable, Writable}
 use Rattle.scanner.proofs.Rest.{rest, rest-short, rest-stops}
@@ -110,7 +110,7 @@ value-room-as base j k a b to vs (Value.word w) e f r = tt
 value-room-as base j k a b to vs (Value.pair x y) e f r = tt
 
 -- there is room for a row's names
-module _ (base l : ℕ) (table : List ℕ) (h : base + l ≤ limit) where
+module _ (base l : ℕ) (table : List ℕ) (h : base + l ≤ maxStore) where
   ref-room : (j k : ℕ) (r : Ref) → RefFits l j r → 2 * counted k r ≤ length table → RefRoom base k table r
   unfolding counted
   ref-room j k (new t) f n = (omega arith, λ q. let m : 2 * (k + 1) ≤ length table = rw (lt-ltb k most q) at n in omega arith)
@@ -237,7 +237,7 @@ module _ (base : ℕ) (s : List ℕ) (S : ℕ → Bool) (T : List ℕ) where
 -- ---- rows
 
 -- what a row carries is in its store and in the table
-module _ (base l : ℕ) (table : List ℕ) (h : base + l ≤ limit) where
+module _ (base l : ℕ) (table : List ℕ) (h : base + l ≤ maxStore) where
   ref-placed : (k : ℕ) (r : Ref) → RefFits l k r → 2 * k ≤ length table → RefPlaced base table r
   ref-placed k (new t) f n = omega arith
   ref-placed k (known i) f n = omega arith

@@ -8,7 +8,7 @@ use Rattle.grammar.specs.Grammar.{Ref, new, known, Value, Item, Items, item, wh
 use lib.Seq.{sets}
 use Rattle.grammar.specs.Scan.{adds, lengths, pairs, copiedPairs, joined, count, words}
 use Rattle.scanner.specs.declared.Pool.{Pool}
-use Rattle.scanner.specs.Tally.{limit}
+use Rattle.wire.specs.Limits.{maxStore}
 use Rattle.scanner.specs.declared.Words.{Words}
 
 -- ---- the pool
@@ -21,7 +21,7 @@ pub record PoolAfter (names : ℕ) (a b : Pool) : Type 0 where
 
 -- there is room for the pair of a new name, and it ends in its store
 abbrev pub RefRoom : ℕ → ℕ → List ℕ → Ref → Type 0
-RefRoom base names table (new t) = (base + (t .start + t .len) ≤ limit) × (names < most → 2 * names + 2 ≤ length table)
+RefRoom base names table (new t) = (base + (t .start + t .len) ≤ maxStore) × (names < most → 2 * names + 2 ≤ length table)
 RefRoom base names table (known i) = Unit {0}
 
 abbrev pub NameRoom : ℕ → ℕ → List ℕ → Option Ref → Type 0
@@ -43,7 +43,7 @@ wordsOf w = w .source ∷ w .a ∷ w .b ∷ []
 
 -- the spans of what a row carries end in their store, and its indexes are in the table
 abbrev pub RefPlaced : ℕ → List ℕ → Ref → Type 0
-RefPlaced base table (new t) = base + (t .start + t .len) ≤ limit
+RefPlaced base table (new t) = base + (t .start + t .len) ≤ maxStore
 RefPlaced base table (known i) = 2 * i + 1 < length table
 
 abbrev pub NamePlaced : ℕ → List ℕ → Option Ref → Type 0
@@ -53,7 +53,7 @@ NamePlaced base table (some r) = RefPlaced base table r
 abbrev pub ValuePlaced : ℕ → List ℕ → Value → Type 0
 ValuePlaced base table Value.nothing = Unit {0}
 ValuePlaced base table Value.empty = Unit {0}
-ValuePlaced base table (Value.span t) = base + (t .start + t .len) ≤ limit
+ValuePlaced base table (Value.span t) = base + (t .start + t .len) ≤ maxStore
 ValuePlaced base table (Value.interned r) = RefPlaced base table r
 ValuePlaced base table (Value.word w) = Unit {0}
 ValuePlaced base table (Value.pair h l) = Unit {0}
@@ -73,7 +73,7 @@ Ended (stops n d) = ⊥
 -- the names of such rows can be kept
 pub record Keepable (base : ℕ) (s : List ℕ) (is : Items) (pool : Pool) (table : List ℕ) : Type 0 where
   pub ended : Ended is
-  pub in-store : base + length s ≤ limit
+  pub in-store : base + length s ≤ maxStore
   pub pairs-fit : 2 * (pool .names + length (adds (pool .names) is)) ≤ length table
   pub kept-first : pool .kept ≤ pool .names
 
@@ -110,7 +110,7 @@ pub record There (base : ℕ) (is : Items) (names : ℕ) (table table′ rows ro
 pub record Copyable (is : Items) (names added : ℕ) (store : List ℕ) (used : ℕ) : Type 0 where
   pub as-many : added ≡ length (adds names is)
   pub bytes-fit : used + lengths (adds names is) ≤ length store
-  pub store-small : length store ≤ limit
+  pub store-small : length store ≤ maxStore
 
 pub record Copied (base : ℕ) (s : List ℕ) (is : Items) (names used : ℕ) (table table′ store store′ rows rows′ : List ℕ) : Type 0 where
   pub table-is : table′ ≡ sets table (2 * names) (copiedPairs used (adds names is))

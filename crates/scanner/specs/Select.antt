@@ -7,6 +7,7 @@ use lib.ListN.{length}
 use lib.Seq.{sets}
 use lib.Dec.{ltb}
 use Rattle.wire.specs.Refusal.{rowsFull, poolFull}
+use Rattle.wire.specs.Limits.{maxStore, maxTable}
 use Rattle.scanner.specs.Keep.{Ended}
 use Rattle.grammar.specs.Grammar.{Items, item, whole, lacks, stops}
 use Rattle.grammar.specs.Scan.{itemWords, adds, pairs}
@@ -19,7 +20,6 @@ use Rattle.scanner.specs.declared.select.Query.{Query}
 use Rattle.scanner.specs.declared.select.Query.the-variants as Query
 use Rattle.scanner.specs.declared.select.Picked.{Picked}
 use Rattle.scanner.specs.declared.select.Picked.the-variants as Picked
-use Rattle.scanner.specs.Tally.{limit}
 
 -- ---- the query
 
@@ -68,7 +68,7 @@ chosen q document element name (w ∷ ws) =
 pub record Room (write : Bool) (to n : ℕ) (rows : List ℕ) : Type 0 where
   pub fits : write ≡ true → to + 8 * n ≤ length rows
   pub sized : length rows < 18_446_744_073_709_551_616
-  pub counts : write ≡ false → to ≤ 16_777_216 * 8
+  pub counts : write ≡ false → to ≤ maxStore * 8
 
 -- so many rows are taken, and stored where they are to be written
 pub record Chose (write : Bool) (to : ℕ) (ws : List Words) (rows rows′ : List ℕ) (n : ℕ) : Type 0 where
@@ -106,8 +106,8 @@ pub record Whole (document : List ℕ) (p : Place) (table : List ℕ) (is : Item
   pub as-many : added ≡ length (adds (p .names) is)
   pub at-fits : p .at ≤ length document
   pub names-fit : 2 * p .names ≤ length table
-  pub document-small : length document ≤ limit
-  pub table-small : length table ≤ 131_070
+  pub document-small : length document ≤ maxStore
+  pub table-small : length table ≤ maxTable
 
 -- what is left of an event that was handed out: its rows that are taken, its kind, and the table with its names
 pub record Handed (document : List ℕ) (p : Place) (table table′ rows rows′ : List ℕ) (is : Items) (written : ℕ) (ws : List Words) (kind n : ℕ) : Type 0 where

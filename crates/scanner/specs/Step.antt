@@ -7,9 +7,9 @@ use lib.ListN.{length}
 use lib.Seq.{sets}
 use lib.Dec.{ltb}
 use Rattle.wire.specs.Refusal.{badSize, badState, rowsFull, poolFull, namesFull}
+use Rattle.wire.specs.Limits.{maxStore}
 use Rattle.grammar.specs.Grammar.{Span, Items, event}
 use Rattle.grammar.specs.Scan.{sound, adds, lengths, pairs, copiedPairs, joined, count, words, Outcome, complete, incomplete, bad, outcome}
-use Rattle.scanner.specs.Tally.{limit}
 use Rattle.scanner.specs.declared.Pool.{Pool}
 use Rattle.scanner.specs.declared.quick.Taken.{Taken}
 use Rattle.scanner.specs.declared.Stepped.{Stepped}
@@ -38,7 +38,7 @@ stepOf table store rows r = record { reply = replyOf r; table = table; store = s
 
 -- 17: the input's store, or the name store that names are copied to, is too long
 unfoldable pub tooLong : ℕ → ℕ → Bool → ℕ → Bool
-tooLong base len copied store = ltb 16_777_216 (base + len) || (copied && ltb 16_777_216 store)
+tooLong base len copied store = ltb maxStore (base + len) || (copied && ltb maxStore store)
 
 -- 19: so many pairs are not in the table, or so many bytes not in the name store
 unfoldable pub outside : ℕ → ℕ → Bool → ℕ → ℕ → Bool
@@ -83,10 +83,10 @@ module _ (s : List ℕ) (base : ℕ) (finished copied : Bool) (names used : ℕ)
 -- ---- the two passes, for a private function: what 17 and 19 leave, and what it then reads
 
 pub record Ready (base : ℕ) (copied : Bool) (pool : Pool) (used : ℕ) (s table store : List ℕ) : Type 0 where
-  pub in-store : base + length s ≤ limit
+  pub in-store : base + length s ≤ maxStore
   pub all-kept : pool .kept ≡ pool .names
   pub names-fit : 2 * pool .names ≤ length table
-  pub used-fit : copied ≡ true → (used ≤ length store) × (length store ≤ limit)
+  pub used-fit : copied ≡ true → (used ≤ length store) × (length store ≤ maxStore)
 
 unfoldable pub readBy : Bool → Bool → ℕ → Pool → ℕ → List ℕ → List ℕ → List ℕ → List ℕ → Left
 readBy finished copied base pool used s table store rows =

@@ -3,6 +3,7 @@ use mathlib.Core.Option.{Option, none, some}
 use mathlib.Core.Path.{_≡_}
 use Prim.Native.Nat.{ℕ, _+_, _*_, _≤_}
 use lib.ListN.{length}
+use Rattle.wire.specs.Limits.{maxStore}
 use Rattle.grammar.specs.Grammar.{Ref, new, known, Value, Item, after}
 use Rattle.grammar.specs.Scan.{addsItem, lengths, Measure}
 use Rattle.grammar.specs.Scan as Scan
@@ -20,16 +21,13 @@ pub record Joins (added bytes names : ℕ) (a b : Tally) : Type 0 where
   pub added-more : b .added ≡ a .added + added
   pub bytes-more : b .bytes ≡ a .bytes + bytes
 
--- no input is longer than this, so no count of one comes near the end of a usize
-abbrev pub limit : ℕ
-limit = 16_777_216
-
+-- no input is longer than a store may be, so no count of one comes near the end of a usize
 pub record Small (t : Tally) : Type 0 where
-  pub added-small : t .added ≤ 2 * limit + 1
-  pub bytes-small : t .bytes ≤ 2 * limit * limit + limit
+  pub added-small : t .added ≤ 2 * maxStore + 1
+  pub bytes-small : t .bytes ≤ 2 * maxStore * maxStore + maxStore
 
 abbrev pub RefSmall : Ref → Type 0
-RefSmall (new t) = t .len ≤ limit
+RefSmall (new t) = t .len ≤ maxStore
 RefSmall (known i) = Unit {0}
 
 abbrev pub NameSmall : Option Ref → Type 0

@@ -6,6 +6,7 @@ pub mod select;
 
 use event::Shape;
 use quick::Taken;
+use wire::limits;
 use wire::Command;
 use wire::Refusal;
 use wire::Type;
@@ -16,6 +17,7 @@ ghost use Prim.Native.Nat.{_+_, _*_, _≤_, _<_};
 ghost use mathlib.Core.List.{[], _∷_, _++_};
 ghost use lib.ListN.{length, getD, take, drop};
 ghost use lib.Seq.{sets};
+ghost use Rattle.wire.specs.Limits.{maxStore};
 ghost use Rattle.wire.specs.Token.{builtIn};
 ghost use Rattle.grammar.specs.Grammar.{u16, u32, u64, string, blob, name, value, attribute, first, most, countedName, countedValue, lacks, whole, new, after, attributesF, event};
 ghost use Rattle.grammar.specs.Document.{typeOf};
@@ -500,7 +502,7 @@ pub struct Tally {
 // With a new name of so many bytes, which joins the pool while there is room.
 fn with_new(tally: Tally, len: usize) -> Tally
     requires { ⌜ Small tally ⌝ }
-    requires { ⌜ len ≤ 16_777_216 ⌝ }
+    requires { ⌜ len ≤ maxStore ⌝ }
     ensures { λ r. ⌜ Joins (cond (ltb (tally .pool .names) most) 1 0) (cond (ltb (tally .pool .names) most) len 0) (cond (ltb (tally .pool .names) most) (tally .pool .names + 1) (tally .pool .names)) tally r ⌝ }
 {
     let pool = tally.pool;
@@ -548,7 +550,7 @@ fn with_value(tally: Tally, value: Value) -> Tally
 
 // With a row.
 fn with_item(tally: Tally, item: Item) -> Tally
-    requires { ⌜ Bounded 16_777_216 tally ⌝ }
+    requires { ⌜ Bounded maxStore tally ⌝ }
     requires { ⌜ ItemSmall (itemOf item) ⌝ }
     ensures { λ r. ⌜ Counts (itemOf item) tally r ⌝ }
 {
@@ -619,7 +621,7 @@ fn measure_rest(
     table: &[u32],
     start: Tally,
 ) -> Measured
-    requires { ⌜ (from ≤ length (now s)) × (length (now s) ≤ 16_777_216) ⌝ }
+    requires { ⌜ (from ≤ length (now s)) × (length (now s) ≤ maxStore) ⌝ }
     requires { ⌜ now tokens ≡ builtIn ⌝ }
     requires { ⌜ 2 * start .pool .kept ≤ length (now table) ⌝ }
     requires { ⌜ Bounded from start ⌝ }
@@ -653,7 +655,7 @@ fn measure_rest(
 // The first pass over the event that stands in s: how many rows it has, how many names it adds to the pool and how many
 // bytes these have, and whether it is complete. finished says that no more bytes will come.
 fn measure(s: &[u8], finished: bool, tokens: &[u16; 256], table: &[u32], pool: Pool) -> Measured
-    requires { ⌜ length (now s) ≤ 16_777_216 ⌝ }
+    requires { ⌜ length (now s) ≤ maxStore ⌝ }
     requires { ⌜ now tokens ≡ builtIn ⌝ }
     requires { ⌜ 2 * pool .kept ≤ length (now table) ⌝ }
     ensures { λ r. ⌜ measuredOf r ≡ measure finished (pool .names) (event (sound (pool .kept) (now (table .entry)) (pool .stored)) (pool .names) (now (s .entry))) ⌝ }
@@ -712,7 +714,7 @@ fn after_item(pool: Pool, item: Item) -> Pool
 
 // The pair of a new name, which lies at start from base on, while there is room in the pool.
 fn keep_new(table: &mut [u32], names: usize, base: usize, start: usize, len: usize)
-    requires { ⌜ base + (start + len) ≤ 16_777_216 ⌝ }
+    requires { ⌜ base + (start + len) ≤ maxStore ⌝ }
     requires { ⌜ (names < most → 2 * names + 2 ≤ length (now table)) ⌝ }
     ensures { λ _. ⌜ now (table .exit) ≡ sets (now (table .entry)) (2 * names) (pairs base (addsRef names (new (record { start = start; len = len })))) ⌝ }
 {
@@ -835,7 +837,7 @@ fn copy(s: &[u8], start: usize, len: usize, store: &mut [u8], to: usize)
 // The names of so many pairs, which span s, are copied to the store from a place on, and the pairs then span the store.
 fn copy_names(s: &[u8], table: &mut [u32], first: usize, count: usize, store: &mut [u8], to: usize)
     requires { ⌜ 2 * (first + count) ≤ length (now table) ⌝ }
-    requires { ⌜ length (now store) ≤ 16_777_216 ⌝ }
+    requires { ⌜ length (now store) ≤ maxStore ⌝ }
     requires { ⌜ Movable count to (now s) (drop (2 * first) (now table)) (now store) ⌝ }
     ensures pairs { λ _. ⌜ now (table .exit) ≡ sets (now (table .entry)) (2 * first) (moved count to (drop (2 * first) (now (table .entry)))) ⌝ }
     ensures bytes { λ _. ⌜ now (store .exit) ≡ sets (now (store .entry)) to (carried count (now (s .entry)) (drop (2 * first) (now (table .entry)))) ⌝ }
@@ -863,7 +865,7 @@ pub struct Words {
 }
 
 fn span_words(base: usize, start: usize, len: usize) -> Words
-    requires { ⌜ base + (start + len) ≤ 16_777_216 ⌝ }
+    requires { ⌜ base + (start + len) ≤ maxStore ⌝ }
     ensures { λ r. ⌜ wordsOf r ≡ 0 ∷ (base + start) ∷ len ∷ [] ⌝ }
 {
     Words {
@@ -1209,7 +1211,7 @@ fn read_quickly(
     pool: Pool,
     rows: &mut [u32],
 ) -> Taken
-    requires { ⌜ base + length (now s) ≤ 16_777_216 ⌝ }
+    requires { ⌜ base + length (now s) ≤ maxStore ⌝ }
     requires { ⌜ 2 * pool .kept ≤ length (now table) ⌝ }
     requires { ⌜ pool .kept ≡ pool .names ⌝ }
     ensures { λ r. ⌜ Quickly (event (sound (pool .kept) (now (table .entry)) (pool .stored)) (pool .names) (now (s .entry))) (pool .names) (cond copied 1 0) base (now (table .entry)) (now (rows .entry)) (now (rows .exit)) r ⌝ }
@@ -1227,20 +1229,18 @@ fn read_quickly(
     taken
 }
 
-// No store that a span lies in is longer.
-const LIMIT: usize = 16_777_216;
-
+// Whether a store that a span lies in, of the input or of names, is longer than any may be.
 fn is_too_long(base: usize, len: usize, copied: bool, store: usize) -> bool
     ensures { λ r. ⌜ r ≡ tooLong base len copied store ⌝ }
 {
-    if LIMIT < base {
+    if limits::MAX_STORE < base {
         return true;
     }
-    if LIMIT - base < len {
+    if limits::MAX_STORE - base < len {
         return true;
     }
     if copied {
-        return LIMIT < store;
+        return limits::MAX_STORE < store;
     }
     false
 }

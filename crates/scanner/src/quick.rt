@@ -12,6 +12,7 @@ ghost use lib.ListN.{length};
 ghost use lib.Seq.{sets};
 ghost use Rattle.grammar.specs.Reader.{got};
 ghost use Rattle.wire.specs.Header.{u32At};
+ghost use Rattle.wire.specs.Limits.{maxStore, maxUnsignedShort};
 ghost use Rattle.grammar.specs.Grammar.{u16, blob, string, attributesF, event};
 ghost use Rattle.grammar.specs.Scan.{sound};
 ghost use Rattle.scanner.specs.Quick.{wordCounts, wordsOf, KnownName, ReadSpan, ReadNumber, ReadValue, ReadAttribute, ReadRest, ReadEvent};
@@ -44,7 +45,7 @@ fn declined() -> Flat
 // A length or an index.
 fn field(s: &[u8], at: usize) -> usize
     requires { ⌜ at + 2 ≤ length (now s) ⌝ }
-    ensures { λ r. ⌜ (u16 (now (s .entry)) at ≡ got r (at + 2)) × (r ≤ 65_535) ⌝ }
+    ensures { λ r. ⌜ (u16 (now (s .entry)) at ≡ got r (at + 2)) × (r ≤ maxUnsignedShort) ⌝ }
 {
     (s[at] as usize) * 256 + (s[at + 1] as usize)
 }
@@ -84,7 +85,7 @@ fn known(s: &[u8], at: usize, source: u32, table: &[u32], pool: Pool) -> Flat
 
 // The span of a blob; the event starts at base.
 fn blob(s: &[u8], at: usize, base: usize) -> Flat
-    requires { ⌜ (at + 2 ≤ length (now s)) × (base + length (now s) ≤ 16_777_216) ⌝ }
+    requires { ⌜ (at + 2 ≤ length (now s)) × (base + length (now s) ≤ maxStore) ⌝ }
     ensures { λ r. ⌜ (0 < r .next → ReadSpan blob (now (s .entry)) at base r) ⌝ }
 {
     let len = field(s, at);
@@ -102,7 +103,7 @@ fn blob(s: &[u8], at: usize, base: usize) -> Flat
 
 // The span of a string.
 fn string(s: &[u8], at: usize, base: usize) -> Flat
-    requires { ⌜ (at + 2 ≤ length (now s)) × (base + length (now s) ≤ 16_777_216) ⌝ }
+    requires { ⌜ (at + 2 ≤ length (now s)) × (base + length (now s) ≤ maxStore) ⌝ }
     ensures { λ r. ⌜ (0 < r .next → ReadSpan string (now (s .entry)) at base r) ⌝ }
 {
     let len = field(s, at);
@@ -150,7 +151,7 @@ fn value(
     table: &[u32],
     pool: Pool,
 ) -> Flat
-    requires { ⌜ (at + 8 ≤ length (now s)) × (base + length (now s) ≤ 16_777_216) ⌝ }
+    requires { ⌜ (at + 8 ≤ length (now s)) × (base + length (now s) ≤ maxStore) ⌝ }
     requires { ⌜ now counts ≡ wordCounts ⌝ }
     requires { ⌜ «type_» < 16 ⌝ }
     requires { ⌜ 2 * pool .kept ≤ length (now table) ⌝ }
@@ -204,7 +205,7 @@ fn attribute(
     words: &mut [u32; 80],
     to: usize,
 ) -> usize
-    requires { ⌜ (at ≤ length (now s)) × (base + length (now s) ≤ 16_777_216) ⌝ }
+    requires { ⌜ (at ≤ length (now s)) × (base + length (now s) ≤ maxStore) ⌝ }
     requires { ⌜ now counts ≡ wordCounts ⌝ }
     requires { ⌜ 2 * pool .kept ≤ length (now table) ⌝ }
     requires { ⌜ pool .kept ≡ pool .names ⌝ }
@@ -241,7 +242,7 @@ fn rest(
     pool: Pool,
     words: &mut [u32; 80],
 ) -> Taken
-    requires { ⌜ (from ≤ length (now s)) × (base + length (now s) ≤ 16_777_216) ⌝ }
+    requires { ⌜ (from ≤ length (now s)) × (base + length (now s) ≤ maxStore) ⌝ }
     requires { ⌜ 2 * pool .kept ≤ length (now table) ⌝ }
     requires { ⌜ pool .kept ≡ pool .names ⌝ }
     ensures { λ r. ⌜ (0 < r .len → ReadRest (attributesF (sound (pool .kept) (now (table .entry)) (pool .stored)) (length (now (s .entry))) (pool .names) (now (s .entry)) from) (pool .names) source base (now (table .entry)) (now (words .entry)) (now (words .exit)) r) ⌝ }
@@ -288,7 +289,7 @@ pub(crate) fn quick(
     pool: Pool,
     words: &mut [u32; 80],
 ) -> Taken
-    requires { ⌜ base + length (now s) ≤ 16_777_216 ⌝ }
+    requires { ⌜ base + length (now s) ≤ maxStore ⌝ }
     requires { ⌜ 2 * pool .kept ≤ length (now table) ⌝ }
     requires { ⌜ pool .kept ≡ pool .names ⌝ }
     ensures { λ r. ⌜ (0 < r .len → ReadEvent (event (sound (pool .kept) (now (table .entry)) (pool .stored)) (pool .names) (now (s .entry))) (pool .names) (cond copied 1 0) base (now (table .entry)) (now (words .entry)) (now (words .exit)) r) ⌝ }

@@ -6,19 +6,20 @@ use Prim.Native.Nat.{ℕ, _*_, _%_, _≤_}
 use borrow.Author.Tests.{ltb-false}
 use lib.Dec.{ltb, eqb}
 use lib.ListN.{length}
+use Rattle.wire.specs.Limits.{maxStore, maxTable}
 use Rattle.grammar.specs.Choice.{neither}
 use Rattle.slice_spec.specs.Slice.{Place, sizesBad, placeBad}
 
 pub record Fits (p : Place) (document table : List ℕ) : Type 0 where
   pub at-fits : p .at ≤ length document
   pub names-fit : 2 * p .names ≤ length table
-  pub document-small : length document ≤ 16_777_216
-  pub table-small : length table ≤ 131_070
+  pub document-small : length document ≤ maxStore
+  pub table-small : length table ≤ maxTable
 
 pub fits : (p : Place) (document table : List ℕ) → sizesBad document table ≡ false → placeBad p document table ≡ false → Fits p document table
 unfolding sizesBad placeBad
 fits p document table a b =
-    let s₁ = neither (ltb 16_777_216 (length document)) _ a in
+    let s₁ = neither (ltb maxStore (length document)) _ a in
     let s₂ = neither (eqb (length table % 2) 1) _ (s₁ .1) in
     let t₁ = neither (ltb (length document) (p .at)) _ b in
     record {

@@ -14,7 +14,7 @@ use Rattle.grammar.specs.Document as D
 use Rattle.grammar.specs.Scan as Scan
 use Rattle.grammar.specs.Example.{document, bare, p, v}
 use Rattle.slice_spec.specs.Slice as S
-use Rattle.slice_spec.specs.Slice.{Place, Answer, gives, end}
+use Rattle.slice_spec.specs.Slice.{Place, Created, created, Answer, gives, end}
 use Rattle.slice_spec.specs.Queries as Q
 use Rattle.slice_spec.specs.Queries.{Query, find-attribute, attributes-of, find-all-attributes, all-attributes-of, Ending, found, done}
 
@@ -121,6 +121,25 @@ broken = Header.magicBytes ++ (0x11 ∷ 0x0F ∷ [])
 
 unfoldable pub stops : List Asked
 stops = record { ending = done; events = 1; at = 5; rows = [] } ∷ record { ending = Ending.refused 9 15; events = 1; at = 5; rows = [] } ∷ []
+
+-- ---- what every call checks first: 17, then 19, or at a creation the header
+
+-- a table of half a pair; a place past the document's end, and more names than the table has pairs
+abbrev odd : List ℕ
+odd = 9 ∷ []
+
+unfoldable pub checks : Place → List ℕ → Answer × Ending
+checks at table = (S.next at document table two .answer, Q.query (all-attributes-of p) at document table two .ending)
+
+pub order : (checks (record { at = 26; names = 0 }) odd ≡ (Answer.refused 17 0, Ending.refused 17 0))
+    × (checks (record { at = 26; names = 0 }) [] ≡ (Answer.refused 19 0, Ending.refused 19 0))
+    × (checks (record { at = 4; names = 1 }) [] ≡ (Answer.refused 19 0, Ending.refused 19 0))
+    × (map (λ s. S.create s odd) ([] ∷ document ∷ []) ≡ Created.refused 17 0 ∷ Created.refused 17 0 ∷ [])
+    × (map (λ s. S.create s []) ([] ∷ (0x41 ∷ 0x42 ∷ 0x58 ∷ 0x01 ∷ []) ∷ document ∷ []) ≡ Created.refused 1 0 ∷ Created.refused 2 0x4142_5801 ∷ created fresh ∷ [])
+unfolding checks document Header.header Header.u32At S.sizesBad S.placeBad S.create S.next Q.query
+order = (refl, refl, refl, refl, refl)
+
+-- ---- the cases, computed
 
 pub runs : (map (λ c. answers fresh document (c .table) (c .lent)) nexts ≡ map (λ c. c .answered) nexts)
     × (map (λ c. ask document (c .table) (c .rows) (c .query)) cases ≡ map (λ c. c .asked) cases)

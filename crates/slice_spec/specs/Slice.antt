@@ -8,6 +8,7 @@ use lib.Dec.{ltb, eqb}
 use Rattle.wire.specs.Header.{Check, header}
 use Rattle.wire.specs.Header as Header
 use Rattle.wire.specs.Refusal.{rowsFull, poolFull, badSize, badState}
+use Rattle.wire.specs.Limits.{maxStore, maxTable}
 use Rattle.grammar.specs.Grammar.{Span, Items, event}
 use Rattle.grammar.specs.Scan.{sound, adds, pairs, count, words, Outcome, complete, incomplete, bad, outcome}
 
@@ -20,7 +21,7 @@ pub record Place : Type 0 where
 
 -- 17: a document or a pool table of a length that no reader takes
 unfoldable pub sizesBad : List ℕ → List ℕ → Bool
-sizesBad document table = ltb 16_777_216 (length document) || (eqb (length table % 2) 1 || ltb 131_070 (length table))
+sizesBad document table = ltb maxStore (length document) || (eqb (length table % 2) 1 || ltb maxTable (length table))
 
 -- 19: a place or a count outside its buffer
 unfoldable pub placeBad : Place → List ℕ → List ℕ → Bool

@@ -9,6 +9,7 @@ use borrow.Author.Tests.{ltb-false}
 use lib.Dec.{ltb, eqb}
 use lib.ListN.{length}
 use Rattle.wire.specs.Refusal.{badSize, badState}
+use Rattle.wire.specs.Limits.{minWindow, maxTable}
 use Rattle.grammar.specs.Choice.{neither}
 use Rattle.stream_spec.specs.Stream.{Stream, Lent, Left, Reply, unchanged, sizesBad, stateBad, checked}
 use Rattle.stream.specs.Answers.{fault, Fits, checkedOf}
@@ -53,10 +54,10 @@ module _ (r : Stream) (l : Lent) where
   unfolding fault sizesBad stateBad
   fits h =
       let f = no-fault (sizesBad l) (stateBad r l) h in
-      let s₁ = neither (ltb (length (l .window)) 64) _ (f .0) in
+      let s₁ = neither (ltb (length (l .window)) minWindow) _ (f .0) in
       let s₂ = neither _ _ (s₁ .1) in
       let s₃ = neither (eqb (length (l .table) % 2) 1) _ (s₂ .1) in
-      let s₄ = neither (ltb 131_070 (length (l .table))) _ (s₃ .1) in
+      let s₄ = neither (ltb maxTable (length (l .table))) _ (s₃ .1) in
       let t₁ = neither _ _ (f .1) in
       let t₂ = neither _ _ (t₁ .1) in
       let t₃ = neither _ _ (t₂ .1) in

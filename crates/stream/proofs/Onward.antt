@@ -9,6 +9,7 @@ use lib.Dec.{ltb, eqb}
 use lib.ListN.{length, take, drop}
 use lib.Seq.{slice, length-slice}
 use Rattle.wire.specs.Refusal.{windowFull}
+use Rattle.wire.specs.Limits.{maxStore}
 use Rattle.grammar.specs.Grammar.{Items, event}
 use Rattle.grammar.specs.Laws.{agree-event}
 use Rattle.grammar.specs.Outcomes.{ends-within}
@@ -84,7 +85,7 @@ module _ (r : Stream) (l : Lent) (from : ℕ) where
       unfolding step Scanned.tooLong Scanned.outside
       stepped-is =
           let n = length-slice from (r .end) (l .window) (f .end-fits) in
-          let a : from + length s ≤ 16_777_216 = omega (arith, f .end-fits, f .window-small) in
+          let a : from + length s ≤ maxStore = omega (arith, f .end-fits, f .window-small) in
           rw (
             part-slice (l .window) from (r .end) h (f .end-fits),
             le-ltb _ _ a,

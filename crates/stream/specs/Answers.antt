@@ -5,6 +5,7 @@ use mathlib.Core.Option.{Option, none, some}
 use Prim.Native.Nat.{ℕ, _+_, _*_, _≤_}
 use lib.ListN.{length}
 use Rattle.wire.specs.Refusal.{badSize, alreadyFinished, badState}
+use Rattle.wire.specs.Limits.{maxStore, maxWindow, maxTable}
 use Rattle.stream_spec.specs.Stream.{Stream, Lent, Left, Reply, took, done, gives, needMore, end, sizesBad, stateBad}
 use Rattle.stream_spec.specs.Stream as Defined
 use Rattle.stream.specs.declared.Stream as Coded
@@ -51,9 +52,9 @@ pub record Fits (r : Stream) (l : Lent) : Type 0 where
   pub end-fits : r .end ≤ length (l .window)
   pub names-fit : 2 * r .names ≤ length (l .table)
   pub bytes-fit : r .bytes ≤ length (l .store)
-  pub window-small : length (l .window) ≤ 1_048_576
-  pub table-small : length (l .table) ≤ 131_070
-  pub store-small : length (l .store) ≤ 16_777_216
+  pub window-small : length (l .window) ≤ maxWindow
+  pub table-small : length (l .table) ≤ maxTable
+  pub store-small : length (l .store) ≤ maxStore
 
 -- the state after an event at `from`, with what the event adds to it
 abbrev pub later : Stream → ℕ → ℕ → ℕ → ℕ → Stream
@@ -63,8 +64,8 @@ later r from len added bytes =
 -- it stays in the buffers
 pub record Sums (r : Stream) (from len added bytes : ℕ) : Type 0 where
   pub end-within : from + len ≤ r .end
-  pub names-small : r .names + added ≤ 131_070
-  pub bytes-small : r .bytes + bytes ≤ 16_777_216
+  pub names-small : r .names + added ≤ maxTable
+  pub bytes-small : r .bytes + bytes ≤ maxStore
 
 -- ---- answers; a refusal carries no state, and leaves that which the call was given
 

@@ -1,5 +1,6 @@
 // The chunk reader over buffers that every call lends: a window where bytes wait, a pool table, and a store for the names.
 use scanner::Stepped;
+use wire::limits;
 use wire::Header;
 use wire::Refusal;
 ghost use mathlib.Core.Bool.{_&&_};
@@ -24,33 +25,23 @@ pub struct Stream {
 
 // ---- what every call checks first
 
-// The shortest and the longest window, in bytes.
-pub const MIN_WINDOW: usize = 64;
-
-pub const MAX_WINDOW: usize = 1_048_576;
-
-// The longest pool table, in words, and the longest name store, in bytes.
-pub const MAX_TABLE: usize = 131_070;
-
-pub const MAX_STORE: usize = 16_777_216;
-
 // Whether a buffer has a length that no reader takes.
 fn sizes_bad(window: &[u8], table: &[u32], store: &[u8]) -> bool
     ensures { λ r. ⌜ r ≡ sizesBad (lend (now (window .entry)) (now (table .entry)) (now (store .entry))) ⌝ }
 {
-    if window.len() < MIN_WINDOW {
+    if window.len() < limits::MIN_WINDOW {
         return true;
     }
-    if MAX_WINDOW < window.len() {
+    if limits::MAX_WINDOW < window.len() {
         return true;
     }
     if table.len() % 2 == 1 {
         return true;
     }
-    if MAX_TABLE < table.len() {
+    if limits::MAX_TABLE < table.len() {
         return true;
     }
-    MAX_STORE < store.len()
+    limits::MAX_STORE < store.len()
 }
 
 // Whether a count or place lies outside its buffer. Twice the names may not fit a usize, half the words do.

@@ -9,6 +9,7 @@ use borrow.Author.Tests.{ltb-false, eqb-false, le-leb, lt-leb}
 use lib.ListN.{length, drop}
 use lib.Seq.{slice, length-slice, drop-append-seam}
 use lib.Dec.{ltb}
+use Rattle.wire.specs.Limits.{minWindow}
 use Rattle.event.specs.Row.{Event}
 use Rattle.grammar.specs.Grammar.{event}
 use Rattle.grammar.specs.Document.{all, Reading, reads, ended, stopped, read, events, sizes, left, total}
@@ -69,9 +70,9 @@ awaited r l acc handed header over h w =
 no-refusal : {n d : ℕ} → Reply.refused n d ≡ needMore → ⊥
 no-refusal q = let z : _≡_ {A = ℕ} 0 1 = cc q in omega arith
 
-window-large : (l : Lent) → sizesBad l ≡ false → 64 ≤ length (l .window)
+window-large : (l : Lent) → sizesBad l ≡ false → minWindow ≤ length (l .window)
 unfolding sizesBad
-window-large l h = byTest (ltb (length (l .window)) 64) (λ b. absurd (true≢false (rw b at h))) (λ b. ltb-false (length (l .window)) 64 b)
+window-large l h = byTest (ltb (length (l .window)) minWindow) (λ b. absurd (true≢false (rw b at h))) (λ b. ltb-false (length (l .window)) minWindow b)
 
 module _ (t : Trace) (rows : List ℕ) (h : Holds t) (ok : sizesBad (t .lent) ≡ false) (mark : t .finished ≡ t .stream .finished) where
   abbrev P : Left → Type 0

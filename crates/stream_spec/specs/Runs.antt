@@ -1,4 +1,5 @@
 -- Lists of calls, computed: the example of document 01 in pieces, and edges of the chunk reader.
+use mathlib.Core.Bool.{true, false}
 use mathlib.Core.List.{List, [], _∷_, _++_, map}
 use mathlib.Core.Path.{_≡_, refl}
 use Prim.Native.Nat.{ℕ}
@@ -12,10 +13,10 @@ use Rattle.event.specs.Row.{Event}
 use Rattle.grammar.specs.Grammar as G
 use Rattle.grammar.specs.Document as D
 use Rattle.grammar.specs.Scan as Scan
-use Rattle.grammar.specs.Example.{document, bare, p}
+use Rattle.grammar.specs.Example.{document, bare, p, v}
 use Rattle.grammar.specs.Example as Example
 use Rattle.stream_spec.specs.Stream as S
-use Rattle.stream_spec.specs.Stream.{Lent, Reply, fresh, took, done, gives, needMore, end, refused}
+use Rattle.stream_spec.specs.Stream.{Stream, Lent, Reply, fresh, took, done, gives, needMore, end, refused}
 use Rattle.stream_spec.specs.Calls as C
 use Rattle.stream_spec.specs.Calls.{Call, call-feed, call-next, call-finish, Trace, run, start, step}
 
@@ -153,6 +154,19 @@ onwards =
           };
     }
 
+-- two names, and both by their indices: their bytes are looked up in the name store
+abbrev indexed : Case
+indexed =
+    record {
+      lent = lent;
+      calls = call-feed (tag (0x32 ∷ 0xFF ∷ 0xFF ∷ 0x00 ∷ 0x01 ∷ 0x76 ∷ 0x33 ∷ 0x00 ∷ 0x01 ∷ 0x33 ∷ 0x00 ∷ 0x00 ∷ [])) ∷ next ∷ next ∷ next ∷ next ∷ next ∷ [];
+      shows =
+          record {
+            replied = took 22 ∷ gives 1 ∷ gives 1 ∷ gives 1 ∷ gives 1 ∷ needMore ∷ [];
+            events = (bare Token.startTag p ∷ []) ∷ (bare Token.startTag v ∷ []) ∷ (bare Token.endTag v ∷ []) ∷ (bare Token.endTag p ∷ []) ∷ [];
+          };
+    }
+
 unfoldable pub cases : List Case
 cases =
     pieces
@@ -164,6 +178,7 @@ cases =
     ∷ scarce
     ∷ nearly
     ∷ onwards
+    ∷ indexed
     ∷ told [] needMore (refused 1 0)
     ∷ told (0x41 ∷ 0x42 ∷ 0x58 ∷ []) needMore (refused 1 0)
     ∷ told (0x41 ∷ 0x42 ∷ 0x58 ∷ 0x01 ∷ []) (refused 2 0x4142_5801) (refused 2 0x4142_5801)
@@ -180,6 +195,31 @@ cases =
     ∷ told (H ++ (0x0F ∷ [])) (refused 9 15) (refused 9 15)
     ∷ told (H ++ (0x0B ∷ [])) (refused 9 11) (refused 9 11)
     ∷ []
+
+-- ---- what every call checks first: 17, then 19, then 18
+
+unfoldable pub checks : Stream → Lent → List Reply
+checks r l = S.feed r l (1 ∷ []) .reply ∷ S.next r l rows .reply ∷ S.finish r l .reply ∷ []
+
+-- a finished reader; and one whose start lies past its end
+abbrev finished : ℕ → Stream
+finished start = record { start = start; end = 0; names = 0; bytes = 0; header = false; finished = true }
+
+-- a table of half a pair, a window of 63 bytes
+abbrev odd : Lent
+odd = narrow (0 ∷ []) []
+
+abbrev small : Lent
+small = record { window = replicate 63 7; table = []; store = [] }
+
+pub order : (checks (finished 1) odd ≡ refused 17 0 ∷ refused 17 0 ∷ refused 17 0 ∷ [])
+    × (checks (finished 1) small ≡ refused 17 0 ∷ refused 17 0 ∷ refused 17 0 ∷ [])
+    × (checks (finished 1) lent ≡ refused 19 0 ∷ refused 19 0 ∷ refused 19 0 ∷ [])
+    × (checks (finished 0) lent ≡ refused 18 0 ∷ refused 1 0 ∷ refused 18 0 ∷ [])
+unfolding checks S.sizesBad S.stateBad S.checked S.feed S.finish S.next S.nextHeader
+order = (refl, refl, refl, refl)
+
+-- ---- the cases, computed
 
 pub runs : map shown cases ≡ map (λ c. c .shows) cases
 unfolding cases shown document Example.events replies replyTo run step U.octets U.wellFormed Header.u32At Token.command Token.type Span.part Span.span Row.shapes Row.shape Row.hasName Row.valueAt Row.rowAt Row.rowsAt G.most G.byte G.u16 G.u32 G.u64 G.raw G.utf8 G.blob G.string G.counted G.after G.countedName G.countedValue G.shaped G.name G.value G.attribute G.first G.attributesF G.event D.bytesAt D.typeOf Scan.addsRef Scan.addsName Scan.addsValue Scan.addsItem Scan.adds Scan.count Scan.spanWords Scan.refWords Scan.nameWords Scan.valueWords Scan.itemWords Scan.words Scan.outcome S.sizesBad S.stateBad S.checked S.fed S.feed S.finish Scan.lengths Scan.copiedPairs Scan.joined Scan.sound S.given S.handOut S.byOutcome S.nextFrom S.nextHeader S.next C.acceptedBy C.handedBy C.headerBy C.finishedBy C.endedBy C.afterFeed C.afterNext C.afterFinish

@@ -7,6 +7,7 @@ use lib.Seq.{sets, slice}
 use lib.Dec.{ltb, eqb}
 use Rattle.wire.specs.Header.{u32At, magic}
 use Rattle.wire.specs.Refusal.{headerShort, invalidMagic, rowsFull, poolFull, namesFull, windowFull, badSize, alreadyFinished, badState}
+use Rattle.wire.specs.Limits.{maxStore, minWindow, maxWindow, maxTable}
 use Rattle.grammar.specs.Grammar.{Span, Items, event}
 use Rattle.grammar.specs.Scan.{sound, adds, lengths, copiedPairs, joined, count, words, Outcome, complete, incomplete, bad, outcome}
 
@@ -51,8 +52,8 @@ unchanged r l rows q = record { reply = q; stream = r; lent = l; rows = rows }
 -- 17: a buffer of a length that no reader takes
 unfoldable pub sizesBad : Lent → Bool
 sizesBad l =
-    ltb (length (l .window)) 64 || (ltb 1_048_576 (length (l .window))
-    || (eqb (length (l .table) % 2) 1 || (ltb 131_070 (length (l .table)) || ltb 16_777_216 (length (l .store)))))
+    ltb (length (l .window)) minWindow || (ltb maxWindow (length (l .window))
+    || (eqb (length (l .table) % 2) 1 || (ltb maxTable (length (l .table)) || ltb maxStore (length (l .store)))))
 
 -- 19: counts or places outside the buffers
 unfoldable pub stateBad : Stream → Lent → Bool

@@ -8,6 +8,7 @@ use native.Mathlib.Omega.{arith}
 use lib.ListN.{length, drop}
 use lib.Seq.{drop-append-seam}
 use Rattle.wire.specs.Header.{u32At, magicBytes}
+use Rattle.wire.specs.Token.{internedNew}
 use Rattle.event.specs.Row.{Event}
 use Rattle.grammar.specs.Grammar.{event}
 use Rattle.grammar.specs.Document.{Pool, all, readOne, Reading, reads, ended, readF, read, events, lastPool}
@@ -30,7 +31,7 @@ read-one : (pool : Pool) (s : List ℕ) (e : Event) (n : ℕ) (b : Bool) → Say
 unfolding readOne
 read-one pool s e n b g = readS-one pool s e n (keepRows pool e) (rw (g .rows, g .names) (ending-ends e (keepRows pool e) n b _ (g .ends)))
 
-read-written : (es : List Event) (pool : Pool) → length pool ≤ 65535 → FormedEvents es → readS pool (rowsBytes pool (flat es)) ≡ asWritten pool es
+read-written : (es : List Event) (pool : Pool) → length pool ≤ internedNew → FormedEvents es → readS pool (rowsBytes pool (flat es)) ≡ asWritten pool es
 unfolding flat asWritten
 read-written [] pool small f = unfold readS readF rowsBytes in refl
 read-written ([] ∷ es) pool small f = absurd (f .0)

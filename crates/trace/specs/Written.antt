@@ -15,11 +15,12 @@ use Rattle.utf8.specs.Utf8.{wellFormed}
 use Rattle.event.specs.Row.{Row, Event, hasName, shape, shapes}
 use Rattle.event.specs.declared.Shape.{Shape}
 use Rattle.grammar.specs.Grammar.{Span, Ref, new, known, Value, Item, Items, item, whole, most, byte, u16, u32, u64, raw, utf8, blob, string, counted, after, name, shaped, value, attribute, first, attributesF, event}
-use Rattle.wire.specs.Header.{u32At}
-use Rattle.wire.specs.Token.{command}
+use Rattle.wire.specs.Header.{be16, be32, u32At}
+use Rattle.wire.specs.Token.{command, internedNew}
 use Rattle.wire.specs.Token as Token
 use Rattle.grammar.specs.Document.{Pool, all, bytesAt, refBytes, valueOf, keepValue, keepItem, typeOf, rowOf, rowsOf, poolOf}
-use Rattle.writer_spec.specs.Encode.{be16, be32, find, sized, nameBy, nameBytes, keepBy, keep, valueBytes, tokenType, rowBytes, keepRow, keepRows, rowsBytes, flat}
+use Rattle.writer_spec.specs.Encode.{find, sized, nameBy, nameBytes, keepBy, keep, valueBytes, tokenType, rowBytes, keepRow, keepRows, rowsBytes, flat}
+use Rattle.writer_spec.specs.Faults.{longest}
 use Rattle.event.specs.Span.{same}
 use Rattle.event.specs.Laws.{same-eq}
 use Rattle.writer_spec.specs.Formed.{Str, FormedValue, FormedAttribute, FormedAttributes, FormedFirst, FormedEvent, FormedEvents}
@@ -119,7 +120,7 @@ module _ (s : List ℕ) (at : ℕ) (rest : List ℕ) where
       four e = sym (drop-drop 4 at s) ∙ rw e (unfold be32 in refl)
 
   -- a length and so many bytes
-  module _ (b : List ℕ) (h : length b ≤ 65535) (e : drop at s ≡ sized b ++ rest) where
+  module _ (b : List ℕ) (h : length b ≤ longest) (e : drop at s ≡ sized b ++ rest) where
     sized-first : drop at s ≡ be16 (length b) ++ (b ++ rest)
     unfolding sized
     sized-first = e ∙ append-assoc (be16 (length b)) b rest
@@ -184,7 +185,7 @@ pub record NameAt (s : List ℕ) (at : ℕ) (pool : Pool) (n : List ℕ) : Type 
   pub its-bytes : refBytes s pool ref ≡ n
   pub keeps : D.keep s pool ref ≡ keep pool n
 
-name-at : (s : List ℕ) (at : ℕ) (pool : Pool) (n rest : List ℕ) → length pool ≤ 65535 → Str n → drop at s ≡ nameBytes pool n ++ rest → NameAt s at pool n
+name-at : (s : List ℕ) (at : ℕ) (pool : Pool) (n rest : List ℕ) → length pool ≤ internedNew → Str n → drop at s ≡ nameBytes pool n ++ rest → NameAt s at pool n
 unfolding nameBytes nameBy keep keepBy name refBytes D.keep be16
 name-at s at pool n rest small str e = go (find pool n) refl
   where
@@ -195,7 +196,7 @@ name-at s at pool n rest small str e = go (find pool n) refl
         let z : at + 2 + 2 + length n ≡ at + length (255 ∷ 255 ∷ sized n) = omega (arith, sized-length n) in
         record {
           ref = new (record { start = at + 2 + 2; len = length n });
-          reads-it = rw (f, u16-at s at (sized n ++ rest) 65535 (omega arith) e₁, string-at s (at + 2) rest n (str .0) e₂ (str .1), z);
+          reads-it = rw (f, u16-at s at (sized n ++ rest) internedNew (omega arith) e₁, string-at s (at + 2) rest n (str .0) e₂ (str .1), z);
           its-bytes = span-at s (at + 2) rest n (str .0) e₂;
           keeps = rw (f, span-at s (at + 2) rest n (str .0) e₂);
         }
@@ -204,7 +205,7 @@ name-at s at pool n rest small str e = go (find pool n) refl
         let e₁ : drop at s ≡ be16 i ++ rest = rw f at e in
         record {
           ref = known i;
-          reads-it = rw (f, u16-at s at rest i (omega arith) e₁, ne-eqb i 65535 (λ q. omega arith), lt-ltb i (length pool) (w .in-pool));
+          reads-it = rw (f, u16-at s at rest i (omega arith) e₁, ne-eqb i internedNew (λ q. omega arith), lt-ltb i (length pool) (w .in-pool));
           its-bytes = w .is-name;
           keeps = rw f;
         }
@@ -218,7 +219,7 @@ pub record ValueAt (s : List ℕ) (at names type : ℕ) (h : Shape) (v : Row.Val
   pub keeps : (pool : Pool) → keepValue s pool wire ≡ pool
 
 -- the bytes of a string or a blob
-bytes-at : (s : List ℕ) (at names type : ℕ) (h : Shape) (b rest : List ℕ) → length b ≤ 65535 → drop at s ≡ sized b ++ rest
+bytes-at : (s : List ℕ) (at names type : ℕ) (h : Shape) (b rest : List ℕ) → length b ≤ longest → drop at s ≡ sized b ++ rest
     → shaped all names type h s at ≡ got (Value.span (record { start = at + 2; len = length b })) (at + 2 + length b) → ValueAt s at names type h (Row.bytes b)
 unfolding valueBytes valueOf keepValue
 bytes-at s at names type h b rest small e there =
@@ -271,7 +272,7 @@ unfolding typeOf shape shapes
 not-interned type v f =
     byTest (eqb type 3) (λ b. absurd (rw (eqb-true type 3 b) at f)) (λ b. rw b)
 
-module _ (s : List ℕ) (at : ℕ) (pool : Pool) (small : length pool ≤ 65535) (r : Row) (rest : List ℕ) (f : FormedAttribute r) (e : drop at s ≡ rowBytes pool r ++ rest) where
+module _ (s : List ℕ) (at : ℕ) (pool : Pool) (small : length pool ≤ internedNew) (r : Row) (rest : List ℕ) (f : FormedAttribute r) (e : drop at s ≡ rowBytes pool r ++ rest) where
   attribute-bytes : rowBytes pool r ≡ (r .type * 16 + 15) ∷ (nameBytes pool (r .name) ++ valueBytes (r .value))
   unfolding rowBytes tokenType hasName
   attribute-bytes = rw (f .its-kind)
@@ -304,7 +305,7 @@ module _ (s : List ℕ) (at : ℕ) (pool : Pool) (small : length pool ≤ 65535)
 
 -- ---- events
 
-module _ (s : List ℕ) (pool : Pool) (small : length pool ≤ 65535) (r : Row) (rest : List ℕ) (e : s ≡ rowBytes pool r ++ rest) where
+module _ (s : List ℕ) (pool : Pool) (small : length pool ≤ internedNew) (r : Row) (rest : List ℕ) (e : s ≡ rowBytes pool r ++ rest) where
   abbrev FirstAt : Type 0
   FirstAt = (i : Item) × (first all (length pool) s 0 ≡ got i (length (rowBytes pool r))) × Stands s pool i r
 
@@ -374,19 +375,19 @@ module _ (s : List ℕ) (pool : Pool) (small : length pool ≤ 65535) (r : Row) 
       (λ c. absurd (rw (a, b, c) at f))))
 
 -- the pool stays within its limit
-keep-small : (pool : Pool) (n : List ℕ) → length pool ≤ 65535 → length (keep pool n) ≤ 65535
+keep-small : (pool : Pool) (n : List ℕ) → length pool ≤ internedNew → length (keep pool n) ≤ internedNew
 unfolding keep keepBy most
 keep-small pool n h = go (find pool n)
   where
-    go : (x : Option ℕ) → length (keepBy pool n x) ≤ 65535
+    go : (x : Option ℕ) → length (keepBy pool n x) ≤ internedNew
     go (some i) = h
-    go none = byTest (ltb (length pool) 65535) (λ b. rw b (simp length-append (omega (arith, ltb-true (length pool) 65535 b)))) (λ b. rw b h)
+    go none = byTest (ltb (length pool) internedNew) (λ b. rw b (simp length-append (omega (arith, ltb-true (length pool) internedNew b)))) (λ b. rw b h)
 
-keepRow-small : (pool : Pool) (r : Row) → length pool ≤ 65535 → length (keepRow pool r) ≤ 65535
+keepRow-small : (pool : Pool) (r : Row) → length pool ≤ internedNew → length (keepRow pool r) ≤ internedNew
 unfolding keepRow
-keepRow-small pool r h = cond-by (λ (p : Pool). length p ≤ 65535) (hasName (r .kind)) (keep pool (r .name)) pool (λ _. keep-small pool (r .name) h) (λ _. h)
+keepRow-small pool r h = cond-by (λ (p : Pool). length p ≤ internedNew) (hasName (r .kind)) (keep pool (r .name)) pool (λ _. keep-small pool (r .name) h) (λ _. h)
 
-pub keepRows-small : (rs : List Row) (pool : Pool) → length pool ≤ 65535 → length (keepRows pool rs) ≤ 65535
+pub keepRows-small : (rs : List Row) (pool : Pool) → length pool ≤ internedNew → length (keepRows pool rs) ≤ internedNew
 unfolding keepRows
 keepRows-small [] pool h = h
 keepRows-small (r ∷ rs) pool h = keepRows-small rs (keepRow pool r) (keepRow-small pool r h)
@@ -429,7 +430,7 @@ unfolding attributesF
 attributes-step s f at k n m pool i r rs b l t a g ih =
     rw (lt-ltb at (length s) l, t, a) (says-more s pool i (attributesF all f (after k i) s n) r rs m b g ih)
 
-attributes-at : (s : List ℕ) (rs : List Row) (f at k : ℕ) (pool : Pool) (rest : List ℕ) → k ≡ length pool → length pool ≤ 65535 → FormedAttributes rs → NoAttribute rest
+attributes-at : (s : List ℕ) (rs : List Row) (f at k : ℕ) (pool : Pool) (rest : List ℕ) → k ≡ length pool → length pool ≤ internedNew → FormedAttributes rs → NoAttribute rest
     → drop at s ≡ rowsBytes pool rs ++ rest → length s ≤ at + f
     → Says s pool (attributesF all f k s at) rs (at + length (rowsBytes pool rs)) (none-left rest)
 unfolding attributesF rowsBytes rowsOf poolOf keepRows
@@ -473,7 +474,7 @@ event-step s pool i r rs n m b a g ih =
     let same-kind : eqb (i .kind) 2 ≡ eqb (r .kind) 2 = ap (λ (k : ℕ). eqb k 2) (g .kinds) in
     rw a (says-more s pool i _ r rs m b g (rw same-kind ih))
 
-pub event-at : (s : List ℕ) (pool : Pool) (r : Row) (rs : List Row) (rest : List ℕ) → length pool ≤ 65535 → FormedEvent (r ∷ rs) → NoAttribute rest → s ≡ rowsBytes pool (r ∷ rs) ++ rest
+pub event-at : (s : List ℕ) (pool : Pool) (r : Row) (rs : List Row) (rest : List ℕ) → length pool ≤ internedNew → FormedEvent (r ∷ rs) → NoAttribute rest → s ≡ rowsBytes pool (r ∷ rs) ++ rest
     → Says s pool (event all (length pool) s) (r ∷ rs) (length (rowsBytes pool (r ∷ rs))) (at-edge (r ∷ rs) rest)
 unfolding rowsBytes keepRows rowsOf poolOf
 event-at s pool r rs rest small f na e =

@@ -1,7 +1,7 @@
--- The header of a document: four bytes.
+-- Integers on the wire, big-endian, and the header of a document.
 use mathlib.Core.Bool.{cond}
 use mathlib.Core.List.{List, [], _∷_}
-use Prim.Native.Nat.{ℕ, _+_, _*_}
+use Prim.Native.Nat.{ℕ, _+_, _*_, _/_, _%_}
 use lib.Dec.{ltb, eqb}
 use lib.ListN.{length, getD}
 use Rattle.wire.specs.Refusal.{headerShort, invalidMagic}
@@ -15,6 +15,15 @@ u32Of a b c d = ((a * 256 + b) * 256 + c) * 256 + d
 -- those from a place on
 unfoldable pub u32At : List ℕ → ℕ → ℕ
 u32At s at = u32Of (getD s at 0) (getD s (at + 1) 0) (getD s (at + 2) 0) (getD s (at + 3) 0)
+
+-- a u16 and a u32 as bytes
+unfoldable pub be16 : ℕ → List ℕ
+be16 n = n / 256 % 256 ∷ n % 256 ∷ []
+
+unfoldable pub be32 : ℕ → List ℕ
+be32 n = n / 16777216 % 256 ∷ n / 65536 % 256 ∷ n / 256 % 256 ∷ n % 256 ∷ []
+
+-- ---- the header
 
 -- "ABX" and a zero
 abbrev pub magicBytes : List ℕ

@@ -1,4 +1,5 @@
 pub mod Token
 pub mod Refusal
+pub mod Limits
 pub mod Header
 pub mod Laws

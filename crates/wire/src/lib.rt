@@ -1,4 +1,5 @@
 // The wire format's numbers: a token's command and type, the header, and the refusals, each named once.
+pub mod limits;
 pub mod tokens;
 
 ghost use mathlib.Core.Path.{_≡_};

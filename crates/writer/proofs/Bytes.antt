@@ -9,11 +9,12 @@ use native.Mathlib.Numerals.{add-one}
 use native.Mathlib.Omega.{arith}
 use lib.ListN.{length, getD, set, length-append}
 use lib.Seq.{sets}
+use Rattle.wire.specs.Header.{be16}
 use Rattle.wire.specs.Token.{internedNew}
 use Rattle.event.specs.Span.{span}
 use Rattle.event.specs.Row.{Row, hasName, rowAt}
 use Rattle.grammar.specs.Stores.{sets-append}
-use Rattle.writer_spec.specs.Encode.{be16, sized, nameBy, valueBytes, tokenType}
+use Rattle.writer_spec.specs.Encode.{sized, nameBy, valueBytes, tokenType}
 use Rattle.writer.specs.Passes.{namedBy, rowBy, tokenIn}
 use Rattle.writer.proofs.Values.{sized-length}
 

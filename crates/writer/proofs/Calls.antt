@@ -8,6 +8,7 @@ use borrow.Author.Tests.{ltb-false, eqb-true}
 use lib.Dec.{ltb, eqb}
 use lib.ListN.{length, take, replicate, length-replicate}
 use Rattle.wire.specs.Refusal.{badSize, badState, notRows}
+use Rattle.wire.specs.Limits.{maxStore, maxTable}
 use Rattle.event.specs.Row.{Row}
 use Rattle.event.specs.Words.{listForms, eventForms}
 use Rattle.writer_spec.specs.Writer.{Writer, Lent, refused, Left, sizesBad, stateBad, poolAt, meetsBad, rowsRefusal, unless, refusal, append, write, rowsIn}
@@ -22,10 +23,10 @@ use Rattle.writer.specs.declared.Measured.the-variants as Measured
 -- ---- what passed checks say
 
 module _ (output table : List ℕ) where
-  pub sizes-passed : sizesBad (lentOf output table) ≡ false → (length output ≤ 16_777_216) × (length table ≤ 131_070)
+  pub sizes-passed : sizesBad (lentOf output table) ≡ false → (length output ≤ maxStore) × (length table ≤ maxTable)
   unfolding sizesBad
   sizes-passed h =
-      let one = neither (ltb 16_777_216 (length output)) _ h in
+      let one = neither (ltb maxStore (length output)) _ h in
       let two = neither (eqb (length table % 2) 1) _ (one .1) in
       (ltb-false _ _ (one .0), ltb-false _ _ (two .1))
 

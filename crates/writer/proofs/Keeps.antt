@@ -8,6 +8,7 @@ use native.Mathlib.Numerals.{add-one}
 use borrow.Author.Tests.{lt-ltb, le-ltb}
 use lib.ListN.{length, getD, set}
 use lib.Seq.{sets}
+use Rattle.wire.specs.Token.{internedNew}
 use Rattle.event.specs.Span.{span}
 use Rattle.event.specs.Row.{Row, hasName, rowAt}
 use Rattle.grammar.specs.Grammar.{most}
@@ -18,13 +19,13 @@ module _ (first second w : List ℕ) (names : ℕ) where
   abbrev row : Row
   row = rowAt first second w
 
-  pub joins : hasName (getD w 0 0) ≡ true → names < 65535 → joinsBy none row names ≡ true
+  pub joins : hasName (getD w 0 0) ≡ true → names < internedNew → joinsBy none row names ≡ true
   unfolding joinsBy rowAt most
-  joins h k = rw (h, lt-ltb names 65535 k)
+  joins h k = rw (h, lt-ltb names internedNew k)
 
-  pub full : 65535 ≤ names → joinsBy none row names ≡ false
+  pub full : internedNew ≤ names → joinsBy none row names ≡ false
   unfolding joinsBy most
-  full k = rw (le-ltb names 65535 k) (cond-by (λ (x : Bool). x ≡ false) (hasName (row .kind)) false false (λ _. refl) (λ _. refl))
+  full k = rw (le-ltb names internedNew k) (cond-by (λ (x : Bool). x ≡ false) (hasName (row .kind)) false false (λ _. refl) (λ _. refl))
 
   pub bare : (o : Option ℕ) → hasName (getD w 0 0) ≡ false → joinsBy o row names ≡ false
   unfolding joinsBy rowAt

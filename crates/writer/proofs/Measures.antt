@@ -9,6 +9,8 @@ use borrow.Author.Tests.{ltb-true, ltb-false}
 use lib.Dec.{ltb}
 use lib.ListN.{length, getD, set, take, length-append}
 use lib.Seq.{sets, length-sets, length-take-le}
+use Rattle.wire.specs.Header.{be16, be32}
+use Rattle.wire.specs.Token.{internedNew}
 use Rattle.event.specs.Span.{span}
 use Rattle.event.specs.Row.{Row, shape, hasName, valueAt, rowAt}
 use Rattle.event.specs.declared.Shape.{Shape}
@@ -16,7 +18,7 @@ use Rattle.event.specs.declared.Shape.the-variants as Shape
 use Rattle.grammar.specs.Grammar.{most}
 use Rattle.grammar.specs.Document.{Pool}
 use Rattle.grammar.specs.Choice.{byTest, cond-by}
-use Rattle.writer_spec.specs.Encode.{be16, be32, find, nameBy, nameBytes, valueBytes, rowBytes, keepRow}
+use Rattle.writer_spec.specs.Encode.{find, nameBy, nameBytes, valueBytes, rowBytes, keepRow}
 use Rattle.writer_spec.specs.Faults.{stringFault, valueFault}
 use Rattle.writer_spec.specs.Writer.{Refusal, _before_, refuseIf, rowRefusal}
 use Rattle.byte_copy.specs.Sets.{take-sets}
@@ -298,7 +300,7 @@ module _ (first second output table : List ℕ) (kept : ℕ) (w n notes heads : 
   here : (o : Option ℕ) → Answer o → (nameRefusal (bad first second output table kept) n ≡ none) × (find pool n ≡ o)
   here o q = (let x = placed-is _ o _ q in (x .0, t .complete n u ∙ x .1))
 
-  pub index-small : (i : ℕ) → Answer (some i) → i < 65535
+  pub index-small : (i : ℕ) → Answer (some i) → i < internedNew
   unfolding most
   index-small i q = omega (arith, find-below pool n i (here (some i) q .1))
 
@@ -306,7 +308,7 @@ module _ (first second output table : List ℕ) (kept : ℕ) (w n notes heads : 
   room-kept i q =
       kept-room first second output table kept pool w notes heads used slot t (rw e at u) (rw e at its) h (rw e at (here (some i) q .0)) roomy small i (rw e at (here (some i) q .1))
 
-  pub room-new : Answer none → names < 65535 → used + 5 ≤ length notes
+  pub room-new : Answer none → names < internedNew → used + 5 ≤ length notes
   unfolding most
   room-new q m =
       new-room first second output table kept pool w notes heads used slot t (rw e at u) (rw e at its) h (rw e at (here none q .0)) roomy small (rw e at (here none q .1)) (omega arith)
@@ -320,7 +322,7 @@ module _ (first second output table : List ℕ) (kept : ℕ) (w n notes heads : 
         (kept-says first second output table kept pool w notes heads used slot t (rw e at u) (rw e at its) h (rw e at (here (some index) q .0)) roomy small index notes′ heads′
         (room-kept index q) stored headed (rw e at (here (some index) q .1)))
 
-    pub says-new : Answer none → names < 65535 → index ≡ names
+    pub says-new : Answer none → names < internedNew → index ≡ names
         → Grown used (used + 5) (length notes′) × NameTakes first second output table kept pool n (4 + length n) (names + 1) (take used notes) (take (used + 5) notes′) heads′
     unfolding most
     says-new q m i =
@@ -328,7 +330,7 @@ module _ (first second output table : List ℕ) (kept : ℕ) (w n notes heads : 
         (new-says first second output table kept pool w notes heads used slot t (rw e at u) (rw e at its) h (rw e at (here none q .0)) roomy small index notes′ heads′
         (room-new q m) stored headed (rw e at (here none q .1)) (omega arith) (i ∙ sym counts))
 
-  pub says-full : Answer none → 65535 ≤ names
+  pub says-full : Answer none → internedNew ≤ names
       → Grown used used (length notes) × NameTakes first second output table kept pool n (4 + length n) names (take used notes) (take used notes) heads
   unfolding most
   says-full q m = (

@@ -7,6 +7,8 @@ use Prim.Native.Nat.{ℕ, _+_, _*_, _%_, _≤_, _<_}
 use native.Mathlib.Nat.{sub-zero}
 use native.Mathlib.Omega.{arith}
 use lib.ListN.{length, take, drop}
+use Rattle.wire.specs.Limits.{maxStore}
+use Rattle.wire.specs.Token.{internedNew}
 use Rattle.event.specs.Row.{Row, hasName, rowAt}
 use Rattle.grammar.specs.Grammar.{most}
 use Rattle.grammar.specs.Document.{Pool}
@@ -70,9 +72,9 @@ module _ (first second output table rows : List ℕ) (kept written : ℕ) where
     pub settled : AllSettled first second (keepRows pool₀ done) (take (t .used) notes) done
     pub used-small : 8 * t .used ≤ 5 * row
     pub used-fits : t .used ≤ length notes
-    pub at-small : t .at ≤ 16_777_217
+    pub at-small : t .at ≤ maxStore + 1
 
-  pub begins : (notes heads : List ℕ) → Fresh heads → written ≤ 16_777_216 → Measuring 0 (record { at = written; names = kept; used = 0 }) notes heads
+  pub begins : (notes heads : List ℕ) → Fresh heads → written ≤ maxStore → Measuring 0 (record { at = written; names = kept; used = 0 }) notes heads
   unfolding keepRows
   begins notes heads f h =
       let start : rest first second rows 0 ≡ all = rw sub-zero in
@@ -95,7 +97,7 @@ module _ (first second output table rows : List ℕ) (kept written : ℕ) where
     pool = keepRows pool₀ (m .done)
 
     -- what a row's measuring asks for
-    pub kept-here : kept ≤ 65_535 → Kept first second output table kept (t .names) (take (t .used) notes) heads
+    pub kept-here : kept ≤ internedNew → Kept first second output table kept (t .names) (take (t .used) notes) heads
     unfolding most
     kept-here h = (pool, m .names-are, rows-bounded (m .done) pool₀ (omega (arith, pool-count output kept table)), m .knows)
 
@@ -144,7 +146,7 @@ module _ (first second output table rows : List ℕ) (kept written : ℕ) where
         pub room-stops : (a b : ℕ) → endsAt rows (row + 8) ≡ true → roomOf (length output) (length table) (u .at) (u .names) ≡ some (a, b) → Whole ≡ some (a, b)
         room-stops a b e f = sym remains-here ∙ stops-room l names-bad (t .at) pool this after (k .passes) (a, b) (ends-here ∙ e) (sym room-here ∙ f)
 
-        next : length output ≤ 16_777_216 → rowsRefusal l names-bad (t .at) pool (this ∷ after) ≡ rowsRefusal l names-bad place pool′ after → Measuring (row + 8) u notes′ heads′
+        next : length output ≤ maxStore → rowsRefusal l names-bad (t .at) pool (this ∷ after) ≡ rowsRefusal l names-bad place pool′ after → Measuring (row + 8) u notes′ heads′
         next small step =
             record {
               done = m .done ++ (this ∷ []);
@@ -165,10 +167,10 @@ module _ (first second output table rows : List ℕ) (kept written : ℕ) where
               at-small = rw (k .at-is) (omega (arith, capped-small (length output) place));
             }
 
-        pub goes-on : length output ≤ 16_777_216 → endsAt rows (row + 8) ≡ false → Measuring (row + 8) u notes′ heads′
+        pub goes-on : length output ≤ maxStore → endsAt rows (row + 8) ≡ false → Measuring (row + 8) u notes′ heads′
         goes-on small e = next small (goes-in l names-bad (t .at) pool this after (k .passes) (ends-here ∙ e))
 
-        pub goes-on-past : length output ≤ 16_777_216 → endsAt rows (row + 8) ≡ true → roomOf (length output) (length table) (u .at) (u .names) ≡ none
+        pub goes-on-past : length output ≤ maxStore → endsAt rows (row + 8) ≡ true → roomOf (length output) (length table) (u .at) (u .names) ≡ none
             → Measuring (row + 8) u notes′ heads′
         goes-on-past small e f = next small (goes-past l names-bad (t .at) pool this after (k .passes) (ends-here ∙ e) (sym room-here ∙ f))
 

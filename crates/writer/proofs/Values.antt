@@ -7,6 +7,7 @@ use native.Mathlib.Omega.{arith}
 use borrow.Author.Tests.{lt-ltb, le-ltb, lt-leb, le-leb}
 use lib.ListN.{length, getD, take, drop, length-drop}
 use lib.Seq.{length-take-le}
+use Rattle.wire.specs.Header.{be16, be32}
 use Rattle.wire.specs.Refusal.{valueTooLong, invalidUtf8}
 use Rattle.utf8.specs.Utf8.{octets, wellFormed}
 use Rattle.event.specs.Span.{part, span}
@@ -14,8 +15,8 @@ use Rattle.event.specs.Row as Row
 use Rattle.event.specs.Row.{Row, shape, valueAt, rowAt}
 use Rattle.event.specs.declared.Shape.{Shape}
 use Rattle.event.specs.declared.Shape.the-variants as Shape
-use Rattle.writer_spec.specs.Encode.{be16, be32, sized, valueBytes}
-use Rattle.writer_spec.specs.Faults.{blobFault, stringFault, valueFault}
+use Rattle.writer_spec.specs.Encode.{sized, valueBytes}
+use Rattle.writer_spec.specs.Faults.{longest, blobFault, stringFault, valueFault}
 use Rattle.writer.specs.Answers.{Measure, takes, stops, measured}
 
 pub sized-length : (s : List ℕ) → length (sized s) ≡ 2 + length s
@@ -29,17 +30,17 @@ unfolding stringFault wellFormed octets
 string-none = refl
 
 module _ (s : List ℕ) (n : ℕ) (e : length s ≡ n) where
-  pub string-long : 65535 < n → stops valueTooLong n ≡ measured (stringFault s) (2 + length s)
+  pub string-long : longest < n → stops valueTooLong n ≡ measured (stringFault s) (2 + length s)
   unfolding stringFault
-  string-long h = rw (e, lt-ltb 65535 n h)
+  string-long h = rw (e, lt-ltb longest n h)
 
-  pub string-sound : n ≤ 65535 → wellFormed s ≡ true → takes (2 + n) ≡ measured (stringFault s) (2 + length s)
+  pub string-sound : n ≤ longest → wellFormed s ≡ true → takes (2 + n) ≡ measured (stringFault s) (2 + length s)
   unfolding stringFault
-  string-sound h t = rw (e, le-ltb 65535 n h, t)
+  string-sound h t = rw (e, le-ltb longest n h, t)
 
-  pub string-broken : n ≤ 65535 → wellFormed s ≡ false → stops invalidUtf8 0 ≡ measured (stringFault s) (2 + length s)
+  pub string-broken : n ≤ longest → wellFormed s ≡ false → stops invalidUtf8 0 ≡ measured (stringFault s) (2 + length s)
   unfolding stringFault
-  string-broken h t = rw (e, le-ltb 65535 n h, t)
+  string-broken h t = rw (e, le-ltb longest n h, t)
 
 -- a part that a store has, and one that it has not
 module _ (store : List ℕ) (start len : ℕ) where

@@ -1,6 +1,7 @@
 // The writer: a header, one event's rows, a list of events. A call first measures all that it is to write, so that a refused
 // one changes nothing, and then writes it.
 use event::Shape;
+use wire::limits;
 use wire::Command;
 use wire::Refusal;
 use wire::Type;
@@ -10,10 +11,13 @@ ghost use mathlib.Core.Path.{_≡_};
 ghost use Prim.Native.Nat.{_+_, _*_, _/_, _%_, _≤_, _<_};
 ghost use lib.ListN.{length, getD, set, take};
 ghost use lib.Seq.{sets};
+ghost use Rattle.wire.specs.Header.{be16, be32};
+ghost use Rattle.wire.specs.Limits.{maxStore};
+ghost use Rattle.wire.specs.Token.{internedNew};
 ghost use Rattle.event.specs.Span.{part, span, valueIn, same};
 ghost use Rattle.event.specs.Row.{shape, rowAt};
 ghost use Rattle.event.specs.Words.{rowsForm, listForms};
-ghost use Rattle.writer_spec.specs.Encode.{be16, be32, sized, valueBytes, find};
+ghost use Rattle.writer_spec.specs.Encode.{sized, valueBytes, find};
 ghost use Rattle.writer_spec.specs.Faults.{stringFault, blobFault, valueFault};
 ghost use Rattle.writer_spec.specs.Writer.{sizesBad, stateBad, poolAt, meetsBad, rowsIn, create, append, write, writeEvent, writeEvents};
 ghost use Rattle.writer.specs.Answers.{lentOf, stateOf, leftOf, formsBy, faultOf, foundOf, searched, sizeOf, measured, placedBy, nameFoundOf, knownOf};
@@ -43,13 +47,13 @@ fn refused(number: u32) -> Written
 fn sizes_bad(output: &[u8], pool: &[u32]) -> bool
     ensures { λ r. ⌜ r ≡ sizesBad (lentOf (now (output .entry)) (now (pool .entry))) ⌝ }
 {
-    if 16_777_216 < output.len() {
+    if limits::MAX_STORE < output.len() {
         return true;
     }
     if pool.len() % 2 == 1 {
         return true;
     }
-    131_070 < pool.len()
+    limits::MAX_TABLE < pool.len()
 }
 
 // Whether the state counts more bytes or pairs than are lent: 19.
@@ -94,7 +98,7 @@ fn blob_fault(s: &[u8]) -> Fault
     requires { ⌜ length (now s) < 4294967296 ⌝ }
     ensures { λ r. ⌜ faultOf r ≡ blobFault (now (s .entry)) ⌝ }
 {
-    if 65_535 < s.len() {
+    if limits::MAX_UNSIGNED_SHORT < s.len() {
         return Fault::Refused(Refusal {
             number: Refusal::VALUE_TOO_LONG,
             detail: s.len() as u32,
@@ -107,7 +111,7 @@ fn string_fault(s: &[u8]) -> Fault
     requires { ⌜ length (now s) < 4294967296 ⌝ }
     ensures { λ r. ⌜ faultOf r ≡ stringFault (now (s .entry)) ⌝ }
 {
-    if 65_535 < s.len() {
+    if limits::MAX_UNSIGNED_SHORT < s.len() {
         return Fault::Refused(Refusal {
             number: Refusal::VALUE_TOO_LONG,
             detail: s.len() as u32,
@@ -142,7 +146,7 @@ fn part_size(store: &[u8], start: usize, len: usize) -> Size
     if store.len() < start + len {
         return Size::Takes(2);
     }
-    if 65_535 < len {
+    if limits::MAX_UNSIGNED_SHORT < len {
         return Size::Refused(Refusal {
             number: Refusal::VALUE_TOO_LONG,
             detail: len as u32,
@@ -554,7 +558,7 @@ pub enum RowSize {
 
 // A place past the end of the output counts as one past it.
 fn capped(limit: usize, at: usize) -> usize
-    requires { ⌜ limit ≤ 16_777_216 ⌝ }
+    requires { ⌜ limit ≤ maxStore ⌝ }
     ensures { λ r. ⌜ r ≡ capped limit at ⌝ }
 {
     if limit < at {
@@ -577,7 +581,7 @@ fn measure_row<'a>(
     seen: &mut [u32],
 ) -> RowSize
     requires { ⌜ 8 ≤ length (now w) ⌝ }
-    requires { ⌜ (length (now output) ≤ 16_777_216) × (tally .at ≤ 16_777_217) ⌝ }
+    requires { ⌜ (length (now output) ≤ maxStore) × (tally .at ≤ maxStore + 1) ⌝ }
     requires { ⌜ 2 * kept ≤ length (now pool) ⌝ }
     requires { ⌜ Roomy (tally .used) (length (now notes)) ⌝ }
     requires { ⌜ Slots (length (now heads)) × Slots (length (now seen)) ⌝ }
@@ -653,8 +657,8 @@ fn measure<'a>(
     seen: &mut [u32],
 ) -> Measured
     requires { ⌜ length (now rows) % 8 ≡ 0 ⌝ }
-    requires { ⌜ (length (now output) ≤ 16_777_216) × (writer .written ≤ length (now output)) ⌝ }
-    requires { ⌜ (2 * writer .names ≤ length (now pool)) × (writer .names ≤ 65_535) ⌝ }
+    requires { ⌜ (length (now output) ≤ maxStore) × (writer .written ≤ length (now output)) ⌝ }
+    requires { ⌜ (2 * writer .names ≤ length (now pool)) × (writer .names ≤ internedNew) ⌝ }
     requires { ⌜ Enough (length (now rows)) (length (now notes)) ⌝ }
     requires { ⌜ Slots (length (now heads)) × Fresh (now heads) ⌝ }
     requires { ⌜ Slots (length (now seen)) ⌝ }
@@ -896,7 +900,7 @@ fn keep_name<'a>(
     known: Known,
 ) -> usize
     requires { ⌜ 8 ≤ length (now w) ⌝ }
-    requires { ⌜ at ≤ 16_777_216 ⌝ }
+    requires { ⌜ at ≤ maxStore ⌝ }
     requires { ⌜ 2 * names + length (pairsBy (knownOf known) (rowAt (now first) (now second) (now w)) names at) ≤ length (now pool) ⌝ }
     ensures pairs { λ r. ⌜ now (pool .exit) ≡ sets (now (pool .entry)) (2 * names) (pairsBy (knownOf known) (rowAt (now (first .entry)) (now (second .entry)) (now (w .entry))) names at) ⌝ }
     ensures count { λ r. ⌜ r ≡ cond (joinsBy (knownOf known) (rowAt (now (first .entry)) (now (second .entry)) (now (w .entry))) names) (names + 1) names ⌝ }
@@ -928,7 +932,7 @@ fn write_rows<'a>(
 ) -> Writer
     requires { ⌜ length (now rows) % 8 ≡ 0 ⌝ }
     requires { ⌜ rowsForm (now first) (now second) false (length (now rows) / 8) (now rows) ≡ true ⌝ }
-    requires { ⌜ length (now output) ≤ 16_777_216 ⌝ }
+    requires { ⌜ length (now output) ≤ maxStore ⌝ }
     requires { ⌜ Slots (length (now heads)) × Slots (length (now seen)) ⌝ }
     requires { ⌜ Ready (now first) (now second) (now output) (now pool) (writer .names) (writer .written) (rowsIn (now first) (now second) (now rows)) (now notes) (now heads) ⌝ }
     ensures { λ r. ⌜ leftOf (Written.Wrote r) (now (output .exit)) (now (pool .exit)) ≡ append (stateOf writer) (lentOf (now (output .entry)) (now (pool .entry))) (rowsIn (now (first .entry)) (now (second .entry)) (now (rows .entry))) ⌝ }

@@ -2,10 +2,10 @@
 use mathlib.Core.Bool.{cond}
 use mathlib.Core.Option.{Option, none, some, Option·map}
 use mathlib.Core.List.{List, [], _∷_, _++_}
-use Prim.Native.Nat.{ℕ, suc, _+_, _*_, _/_, _%_}
+use Prim.Native.Nat.{ℕ, suc, _+_, _*_}
 use lib.ListN.{length}
 use lib.Dec.{ltb}
-use Rattle.wire.specs.Header.{magicBytes}
+use Rattle.wire.specs.Header.{be16, be32, magicBytes}
 use Rattle.wire.specs.Token.{internedNew}
 use Rattle.wire.specs.Token as Token
 use Rattle.event.specs.Span.{same}
@@ -13,12 +13,6 @@ use Rattle.event.specs.Row as Row
 use Rattle.event.specs.Row.{Row, Event, hasName}
 use Rattle.grammar.specs.Grammar.{most}
 use Rattle.grammar.specs.Document.{Pool}
-
-unfoldable pub be16 : ℕ → List ℕ
-be16 n = n / 256 % 256 ∷ n % 256 ∷ []
-
-unfoldable pub be32 : ℕ → List ℕ
-be32 n = n / 16777216 % 256 ∷ n / 65536 % 256 ∷ n / 256 % 256 ∷ n % 256 ∷ []
 
 -- a length and the bytes
 unfoldable pub sized : List ℕ → List ℕ

@@ -6,6 +6,7 @@ use Prim.Native.Nat.{ℕ}
 use lib.ListN.{length}
 use lib.Dec.{ltb, eqb}
 use Rattle.wire.specs.Refusal.{valueTooLong, invalidUtf8}
+use Rattle.wire.specs.Limits.{maxUnsignedShort}
 use Rattle.wire.specs.Token as Token
 use Rattle.utf8.specs.Utf8.{wellFormed}
 use Rattle.event.specs.Row as Row
@@ -17,7 +18,7 @@ use Rattle.event.specs.declared.Shape.the-variants as Shape
 
 -- the longest string or blob: its length is a u16
 abbrev pub longest : ℕ
-longest = 65535
+longest = maxUnsignedShort
 
 -- what is wrong with a blob, and with a string: a number and a detail
 unfoldable pub blobFault : List ℕ → Option (ℕ × ℕ)

@@ -9,6 +9,7 @@ use borrow.Author.Tests.{ltb-true, le-leb, lt-ltb, le-ltb}
 use lib.ListN.{length, take, drop, length-append}
 use lib.Seq.{take-append-seam, drop-append-seam, drop-append-add}
 use lib.Dec.{leb}
+use Rattle.wire.specs.Header.{be16}
 use Rattle.wire.specs.Token.{internedNew}
 use Rattle.grammar.specs.Grammar.{most}
 use Rattle.event.specs.Span.{part, same}
@@ -16,7 +17,7 @@ use Rattle.event.specs.Row.{Row, hasName}
 use Rattle.grammar.specs.Document.{Pool}
 use Rattle.grammar.specs.Choice.{byTest, cond-by}
 use Rattle.grammar.specs.Laws.{part-append}
-use Rattle.writer_spec.specs.Encode.{be16, sized, find, nameBy, nameBytes, keepBy, keep, valueBytes, tokenType, rowBytes, keepRow, rowsBytes, keepRows}
+use Rattle.writer_spec.specs.Encode.{sized, find, nameBy, nameBytes, keepBy, keep, valueBytes, tokenType, rowBytes, keepRow, rowsBytes, keepRows}
 use Rattle.writer_spec.specs.Writer.{poolAt, meetsBad, rowPairs, rowsPairs}
 
 -- pairs that span a pool's names in these bytes

@@ -12,6 +12,7 @@ use lib.Dec.{ltb, eqb}
 use Rattle.byte_copy.specs.Sets.{take-sets}
 use Rattle.wire.specs.Header.{magicBytes}
 use Rattle.wire.specs.Refusal.{notRows}
+use Rattle.wire.specs.Limits.{maxStore, maxTable}
 use Rattle.event.specs.Row.{Row, Event, rowAt, rowsAt}
 use Rattle.event.specs.Words.{rowsForm, listForms, eventForms, attributesOnly, single}
 use Rattle.event.specs.Laws.{both}
@@ -227,7 +228,7 @@ own-refusal formed es w l rs h s =
 
 -- ---- what is not refused: buffers of the right sizes with room, words that form rows, strings that can be written
 
-sizes-good : (l : Lent) → length (l .output) ≤ 16_777_216 → length (l .table) % 2 ≡ 0 → length (l .table) ≤ 131_070 → sizesBad l ≡ false
+sizes-good : (l : Lent) → length (l .output) ≤ maxStore → length (l .table) % 2 ≡ 0 → length (l .table) ≤ maxTable → sizesBad l ≡ false
 unfolding sizesBad
 sizes-good l o e t = rw (le-ltb, e, le-ltb)
 
@@ -247,7 +248,7 @@ write-taken es w l rs h s f o t =
 
 -- the list call of a fresh writer
 pub list-taken : (first second rows : List ℕ) (l : Lent) → listForms first second rows ≡ true → rowsFault (rowsIn first second rows) ≡ none
-    → length (l .output) ≤ 16_777_216 → length (l .table) % 2 ≡ 0 → length (l .table) ≤ 131_070
+    → length (l .output) ≤ maxStore → length (l .table) % 2 ≡ 0 → length (l .table) ≤ maxTable
     → length (encode (eventsIn first second rows)) ≤ length (l .output) → 2 * length (poolAfter (eventsIn first second rows)) ≤ length (l .table)
     → (w : Writer) × (w′ : Writer) × (create l .reply ≡ wrote w) × (writeEvents w first second rows (create l .lent) .reply ≡ wrote w′)
 unfolding writeEvents begin append sizesBad encode

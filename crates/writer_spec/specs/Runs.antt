@@ -3,6 +3,7 @@ use mathlib.Core.List.{List, [], _∷_, _++_, map}
 use mathlib.Core.Path.{_≡_, refl}
 use Prim.Native.Nat.{ℕ}
 use lib.ListN.{replicate}
+use Rattle.wire.specs.Header as Header
 use Rattle.wire.specs.Token as Token
 use Rattle.utf8.specs.Utf8 as U
 use Rattle.event.specs.Span as Span
@@ -106,5 +107,5 @@ new output table = create (record { output = output; table = table }) .reply
 pub runs : (map listed cases ≡ map (λ c. c .replied) cases)
     × (map single (p ∷ (p ++ q) ∷ [] ∷ []) ≡ wrote (record { written = 10; names = 1 }) ∷ refused 16 0 ∷ refused 16 0 ∷ [])
     × ((new (replicate 3 0) (0 ∷ []) ≡ refused 17 0) × (new (replicate 3 0) [] ≡ refused 15 0) × (new (replicate 4 0) [] ≡ wrote header))
-unfolding cases listed W.begin W.create W.writeEvent W.writeEvents W.write W.refusal W.unless W.append W.sizesBad W.stateBad W.poolAt W.meetsBad W.rowRefusal W.roomRefusal W.ends W.rowsRefusal W.rowPairs W.rowsPairs F.stringFault F.blobFault F.valueFault F.glue F.group E.rowsBytes E.rowBytes E.keepRows E.keepRow E.keep E.keepBy E.find E.nameBytes E.nameBy E.sized E.be16 E.be32 E.valueBytes E.tokenType Words.listForms Words.eventForms Words.single Words.attributesOnly Words.rowsForm Words.rowFormsIn Words.rowForms Words.attributeForms Words.valueForms Words.zeros Words.opens Span.spanIn Span.span Span.part Span.same Row.rowsAt Row.rowAt Row.valueAt Row.shape Row.shapes Row.hasName U.wellFormed U.octets G.most
+unfolding cases listed W.begin W.create W.writeEvent W.writeEvents W.write W.refusal W.unless W.append W.sizesBad W.stateBad W.poolAt W.meetsBad W.rowRefusal W.roomRefusal W.ends W.rowsRefusal W.rowPairs W.rowsPairs F.stringFault F.blobFault F.valueFault F.glue F.group E.rowsBytes E.rowBytes E.keepRows E.keepRow E.keep E.keepBy E.find E.nameBytes E.nameBy E.sized Header.be16 Header.be32 E.valueBytes E.tokenType Words.listForms Words.eventForms Words.single Words.attributesOnly Words.rowsForm Words.rowFormsIn Words.rowForms Words.attributeForms Words.valueForms Words.zeros Words.opens Span.spanIn Span.span Span.part Span.same Row.rowsAt Row.rowAt Row.valueAt Row.shape Row.shapes Row.hasName U.wellFormed U.octets G.most
 runs = (refl, refl, (refl, refl, refl))

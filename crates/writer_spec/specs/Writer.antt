@@ -8,6 +8,7 @@ use lib.Seq.{sets}
 use lib.Dec.{ltb, leb, eqb}
 use Rattle.wire.specs.Header.{magicBytes}
 use Rattle.wire.specs.Refusal.{badSize, badState, notRows, poolFull, outputFull}
+use Rattle.wire.specs.Limits.{maxStore, maxTable}
 use Rattle.wire.specs.Token.{attribute}
 use Rattle.event.specs.Span.{part, same}
 use Rattle.event.specs.Row.{Row, shape, hasName, rowsAt}
@@ -50,7 +51,7 @@ refuseIf test number = cond test (some (number, 0)) none
 
 -- 17: the output is too long, or the pool table is no pairs or too long
 unfoldable pub sizesBad : Lent → Bool
-sizesBad l = ltb 16_777_216 (length (l .output)) || (eqb (length (l .table) % 2) 1 || ltb 131_070 (length (l .table)))
+sizesBad l = ltb maxStore (length (l .output)) || (eqb (length (l .table) % 2) 1 || ltb maxTable (length (l .table)))
 
 -- 19 for the state: it counts more bytes or pairs than are lent. A place inside the header is a place in the output
 unfoldable pub stateBad : Writer → Lent → Bool

@@ -1,6 +1,6 @@
 use mathlib.Core.Path.{refl}
-use Rattle.writer_spec.specs.Encode.{be32}
 use borrow.Author.Needs.{needs}
+use Rattle.wire.specs.Header.{be32}
 use Rattle.listing.proofs.pair.Statement.{statement}
 use Rattle.listing.proofs.pair.Tie as tie
 

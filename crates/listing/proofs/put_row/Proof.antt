@@ -2,7 +2,7 @@ use mathlib.Core.Bool.{true, false}
 use mathlib.Core.Path.{sym, ap, _∙_}
 use native.Mathlib.Omega.{arith}
 use lib.ListN.{length, getD}
-use Rattle.writer_spec.specs.Encode.{be32}
+use Rattle.wire.specs.Header.{be32}
 use Rattle.listing.proofs.Texts.{span-short, row-put, value-nothing, value-interned, value-unknown, value-string, value-blob, value-word, value-pair}
 use borrow.Author.Needs.{needs}
 use Rattle.listing.proofs.put_row.Statement.{statement}

@@ -3,10 +3,11 @@ use mathlib.Core.Path.{refl, sym, ap, _∙_}
 use Prim.Native.Nat.{_+_}
 use lib.ListN.{length, getD, length-append}
 use lib.Seq.{sets, length-sets}
+use Rattle.wire.specs.Header.{be16}
 use Rattle.event.specs.Span.{span}
 use Rattle.event.specs.Row.{rowAt}
 use Rattle.wire.specs.Token.{internedNew}
-use Rattle.writer_spec.specs.Encode.{be16, sized}
+use Rattle.writer_spec.specs.Encode.{sized}
 use Rattle.writer.specs.Answers.{knownOf}
 use Rattle.writer.specs.Passes.{namedBy}
 use Rattle.writer.proofs.Values.{sized-length}

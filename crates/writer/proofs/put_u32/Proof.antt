@@ -1,8 +1,8 @@
 use lib.ListN.{length-set}
 use native.Mathlib.Numerals.{towards-suc}
 use native.Mathlib.Omega.{arith}
-use Rattle.writer_spec.specs.Encode.{be32}
 use borrow.Author.Needs.{needs}
+use Rattle.wire.specs.Header.{be32}
 use Rattle.writer.proofs.put_u32.Statement.{statement}
 use Rattle.writer.proofs.put_u32.Tie as tie
 

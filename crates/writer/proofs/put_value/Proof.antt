@@ -3,8 +3,9 @@ use mathlib.Core.Path.{refl, sym, ap, _∙_}
 use Prim.Native.Nat.{_+_}
 use lib.ListN.{length, getD}
 use lib.Seq.{sets}
+use Rattle.wire.specs.Header.{be32}
 use Rattle.event.specs.Span.{span}
-use Rattle.writer_spec.specs.Encode.{be32, sized}
+use Rattle.writer_spec.specs.Encode.{sized}
 use Rattle.writer.proofs.Values.{sized-length, bytes-nothing, bytes-interned, bytes-unknown, bytes-string, bytes-blob, bytes-word, bytes-pair}
 use Rattle.writer.proofs.Bytes.{in-turn, nothing-stored}
 use borrow.Author.Needs.{needs}
