@@ -1,12 +1,15 @@
 -- What the grammar reads of a document: its events, with the pool's names as bytes.
-use mathlib.Core.Bool.{Bool, true, cond}
+use mathlib.Core.Bool.{Bool, true, false, cond}
 use mathlib.Core.Option.{Option, none, some}
 use mathlib.Core.List.{List, [], _∷_, _++_}
-use Prim.Native.Nat.{ℕ, zero, suc, _+_}
+use mathlib.Core.Logic.{_⊎_}
+use mathlib.Core.Path.{_≡_}
+use Prim.Native.Nat.{ℕ, zero, suc, _+_, _≤_}
 use lib.ListN.{length, getD, take, drop}
 use lib.Dec.{ltb, eqb}
 use Rattle.event.specs.Row.{Row, Event}
 use Rattle.grammar.specs.Grammar.{Span, Ref, new, known, Value, Item, Items, item, whole, lacks, stops, most, event}
+use Rattle.wire.specs.Refusal.{headerShort, unexpectedEof, bytesShort, badInternedIndex, unknownCommand}
 use Rattle.wire.specs.Header.{header, Check}
 use Rattle.wire.specs.Header as Header
 use Rattle.wire.specs.Token as Token
@@ -148,6 +151,13 @@ lastPool (reads e n r) = lastPool r
 lastPool (ended p) = some p
 lastPool (stopped n d) = none
 
+-- lengths added up
+unfoldable pub total : List ℕ → ℕ
+total [] = 0
+total (n ∷ ns) = n + total ns
+
+-- ---- what is said of a reading
+
 -- what is left of a reading after so many events
 abbrev pub left : ℕ → Reading → Reading
 left zero r = r
@@ -165,7 +175,25 @@ namesFrom (stopped n d) pool s = pool
 unfoldable pub namesOf : List ℕ → Pool
 namesOf s = namesFrom (read s) [] (drop 4 s)
 
--- lengths added up
-unfoldable pub total : List ℕ → ℕ
-total [] = 0
-total (n ∷ ns) = n + total ns
+-- how the bytes may go on: in any way, or, once no more will come, in none
+abbrev pub Open : Bool → List ℕ → Type 0
+Open true u = u ≡ []
+Open false u = Unit {0}
+
+-- the refusals of an event that lacks bytes, and those that stay, whatever follows
+abbrev pub Short : ℕ → Type 0
+Short n = (unexpectedEof ≤ n) × (n ≤ bytesShort)
+
+abbrev pub Lasting : ℕ → Type 0
+Lasting n = (badInternedIndex ≤ n) × (n ≤ unknownCommand)
+
+-- an event that is a start tag
+abbrev pub IsTag : Event → Type 0
+IsTag [] = ⊥
+IsTag (r ∷ rs) = r .kind ≡ Token.startTag
+
+-- what is left to read of k bytes is: nothing, of none; a start tag that takes them all; or a header or an event that lacks bytes
+abbrev pub Last : ℕ → Reading → Type 0
+Last k (ended p) = k ≡ 0
+Last k (reads e n r) = (n ≡ k) × ((p : Pool) × (r ≡ ended p)) × IsTag e
+Last k (stopped n d) = ((n ≡ headerShort) ⊎ Short n) × (d ≡ 0)

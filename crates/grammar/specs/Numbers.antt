@@ -15,17 +15,9 @@ use Rattle.wire.specs.Refusal.{unexpectedEof, unknownAttributeType}
 use Rattle.wire.specs.Token.{command, internedNew}
 use Rattle.wire.specs.Token as Token
 use Rattle.grammar.specs.Grammar.{Ref, new, known, Value, Item, Items, item, whole, lacks, stops, byte, u16, u32, u64, raw, utf8, blob, string, counted, after, thenItems, name, shaped, value, attribute, first, attributesF, event}
-use Rattle.grammar.specs.Document.{all}
+use Rattle.grammar.specs.Document.{all, Short, Lasting}
 use Rattle.grammar.specs.Choice.{byTest, cond-by}
 use Rattle.grammar.specs.Scan.{bad, outcome}
-
--- the input ends in an event
-abbrev pub Short : ℕ → Type 0
-Short n = (3 ≤ n) × (n ≤ 5)
-
--- an event that stays refused, whatever follows
-abbrev pub Lasting : ℕ → Type 0
-Lasting n = (6 ≤ n) × (n ≤ 9)
 
 -- ---- readers
 

@@ -2,7 +2,7 @@
 -- whatever follows; of an incomplete one's bytes the grammar reads at most a start tag that takes them all.
 use mathlib.Core.Bool.{Bool, true, false, not, _&&_, cond, true≢false}
 use mathlib.Core.List.{List, [], _∷_, _++_, append-nil}
-use mathlib.Core.Logic.{_⊎_, inr}
+use mathlib.Core.Logic.{inr}
 use mathlib.Core.Path.{_≡_, refl, sym, _∙_}
 use Prim.Native.Nat.{ℕ, zero, suc, _≤_}
 use native.Mathlib.Omega.{arith}
@@ -10,17 +10,15 @@ use borrow.Author.Tests.{eqb-true}
 use lib.ListN.{length, drop, length-append}
 use lib.Seq.{drop-length}
 use lib.Dec.{eqb}
-use Rattle.wire.specs.Refusal.{headerShort}
-use Rattle.wire.specs.Token as Token
 use Rattle.event.specs.Row.{Event}
 use Rattle.grammar.specs.Reader.{Read, got, short}
 use Rattle.grammar.specs.Grammar.{Item, Items, item, whole, lacks, stops, byte, after, thenItems, first, attributesF, event}
-use Rattle.grammar.specs.Document.{Pool, all, rowOf, rowsOf, poolOf, One, one, refused, ending, readOne, Reading, reads, ended, stopped, thenReading, readF}
+use Rattle.grammar.specs.Document.{Pool, all, rowOf, rowsOf, poolOf, One, one, refused, ending, readOne, reads, ended, stopped, thenReading, readF, Open, Short, IsTag, Last}
 use Rattle.grammar.specs.Scan.{Outcome, complete, incomplete, bad, outcome}
 use Rattle.grammar.specs.Choice.{byTest}
 use Rattle.grammar.specs.Laws.{Agree, agree-event}
-use Rattle.grammar.specs.Numbers.{Short, NumberedItems, event-numbered}
-use Rattle.grammar.specs.Steps.{Ends, readS, Open, Reads-on, reads-on-one, reads-on-edge}
+use Rattle.grammar.specs.Numbers.{NumberedItems, event-numbered}
+use Rattle.grammar.specs.Steps.{Ends, readS, Reads-on, reads-on-one, reads-on-edge}
 
 -- ---- a complete event
 
@@ -108,17 +106,6 @@ bad-stops-on pool s false n d l h u v =
     (one-outcome pool (s ++ u) (bad n d) (bad-again s u 1 n d (length pool) (event all (length pool) s) _ (agree-event s u all (length pool)) h))
 
 -- ---- an incomplete event
-
--- an event that is a start tag
-abbrev pub IsTag : Event → Type 0
-IsTag [] = ⊥
-IsTag (r ∷ rs) = r .kind ≡ Token.startTag
-
--- what is left to read: nothing; an event that takes all of k bytes, a start tag; or a header or an event that lacks bytes
-abbrev pub Last : ℕ → Reading → Type 0
-Last k (reads e n r) = (n ≡ k) × ((p : Pool) × (r ≡ ended p)) × IsTag e
-Last k (ended p) = k ≡ 0
-Last k (stopped n d) = ((n ≡ headerShort) ⊎ Short n) × (d ≡ 0)
 
 -- rows that end where the input ends are those of a start tag
 edge-tag : (pool : Pool) (s : List ℕ) (n : ℕ) → Ends n true (event all (length pool) s) → IsTag (rowsOf s pool (event all (length pool) s))

@@ -12,7 +12,7 @@ use lib.Dec.{ltb}
 use Rattle.event.specs.Row.{Event}
 use Rattle.grammar.specs.Grammar.{Span, Ref, new, known, Value, Item, Items, item, whole, lacks, stops, most, counted, countedName, countedValue, after, event}
 use Rattle.wire.specs.Header.{u32At, magic, header}
-use Rattle.grammar.specs.Document.{Pool, bytesAt, refBytes, keep, nameBytes, keepName, valueOf, keepValue, keepItem, rowOf, rowsOf, poolOf, One, one, ending, all, readOne, Reading, reads, thenReading, readF, read, events, sizes, namesFrom, namesOf}
+use Rattle.grammar.specs.Document.{Pool, bytesAt, refBytes, keep, nameBytes, keepName, valueOf, keepValue, keepItem, rowOf, rowsOf, poolOf, One, one, ending, all, readOne, Reading, reads, thenReading, readF, read, events, sizes, namesFrom, namesOf, Open}
 use Rattle.grammar.specs.Laws.{In, RefFits, NameFits, ValueFits, ItemFits, Agree, agree-event, part-append, u32At-append}
 use Rattle.event.specs.declared.Shape.{Shape}
 use Rattle.grammar.specs.Choice.{byTest}
@@ -176,11 +176,6 @@ readS-one pool [] e n p h = absurd (let m : Moved 0 (one e n p) = rw h at (moved
 readS-one pool (c ∷ s) e n p h =
     let m : Moved (suc (length s)) (one e n p) = rw h at (moved pool (c ∷ s)) in
     rw h (ap (λ (r : Reading). reads e n r) (readF-fuel (length s) (length (drop n (c ∷ s))) p (drop n (c ∷ s)) (rw (length-drop n (c ∷ s)) (omega arith)) (omega arith)))
-
--- how the bytes may go on: in any way, or, once the reader is finished, in none
-abbrev pub Open : Bool → List ℕ → Type 0
-Open true u = u ≡ []
-Open false u = Unit {0}
 
 ends-bounds : (s t : List ℕ) (k n : ℕ) (e : Bool) (is y : Items) → Agree s t k 1 is y → Ends n e is → (1 ≤ n) × (n ≤ length s)
 ends-bounds s t k n e (item i is) y a w = ends-bounds s t (after k i) n e is (a .1 .0) (a .1 .2) w

@@ -1,1 +1,1 @@
-// The slice reader. So far its definitions alone, in specs/.
+// Definitions and laws alone, in specs/; the code that meets them is the crate `slice`.

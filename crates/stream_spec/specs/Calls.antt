@@ -11,10 +11,7 @@ use lib.Seq.{slice}
 use lib.Dec.{leb}
 use Rattle.wire.specs.Refusal.{invalidMagic, rowsFull, poolFull, namesFull, windowFull}
 use Rattle.event.specs.Row.{Event, rowsAt}
-use Rattle.grammar.specs.Document.{Pool, poolBytes, Reading, reads, stopped, read, events, sizes, lastPool, left, namesOf, total}
-use Rattle.grammar.specs.Numbers.{Lasting}
-use Rattle.grammar.specs.Steps.{Open}
-use Rattle.grammar.specs.Outcomes.{Last}
+use Rattle.grammar.specs.Document.{Pool, poolBytes, Reading, reads, stopped, read, events, sizes, lastPool, total, left, namesOf, Open, Lasting, Last}
 use Rattle.stream_spec.specs.Stream.{Stream, Lent, Left, Reply, took, done, gives, needMore, end, refused, unchanged, feed, finish, next}
 
 -- ---- lists of calls

@@ -13,11 +13,11 @@ use lib.Dec.{eqb}
 use Rattle.wire.specs.Header.{u32At, magic}
 use Rattle.event.specs.Row.{Event, rowsAt}
 use Rattle.grammar.specs.Grammar.{Span, Items, event}
-use Rattle.grammar.specs.Document.{Pool, all, rowsOf, poolOf, Reading, read, readF, events, sizes, lastPool, left, namesFrom, namesOf, total}
+use Rattle.grammar.specs.Document.{Pool, all, rowsOf, poolOf, Reading, read, readF, events, sizes, lastPool, left, namesFrom, namesOf, total, Open}
 use Rattle.grammar.specs.Scan.{lengths, copiedPairs, joined, sound, complete, outcome, adds, count, words}
 use Rattle.grammar.specs.Choice.{byTest}
 use Rattle.grammar.specs.Laws.{Agree, agree-event}
-use Rattle.grammar.specs.Steps.{chain, chain-snoc, events-chain, sizes-chain, read-passed, names-passed, readS, Open, Reads-on, names-on}
+use Rattle.grammar.specs.Steps.{chain, chain-snoc, events-chain, sizes-chain, read-passed, names-passed, readS, Reads-on, names-on}
 use Rattle.grammar.specs.Outcomes.{complete-reads-on}
 use Rattle.grammar.specs.Added.{pool-adds, adds-in}
 use Rattle.grammar.specs.Remaining.{left-chain}

@@ -14,11 +14,11 @@ use Rattle.wire.specs.Header.{u32At, magic, header}
 use Rattle.wire.specs.Refusal.{headerShort, invalidMagic, rowsFull}
 use Rattle.event.specs.Row.{Event}
 use Rattle.grammar.specs.Grammar.{Span, Items, event}
-use Rattle.grammar.specs.Document.{Pool, poolBytes, all, rowsOf, poolOf, Reading, reads, ended, stopped, readF, read, events, lastPool, left, namesOf}
+use Rattle.grammar.specs.Document.{Pool, poolBytes, all, rowsOf, poolOf, Reading, reads, ended, stopped, readF, read, events, lastPool, left, namesOf, Open}
 use Rattle.grammar.specs.Scan.{lengths, adds, count, Outcome, outcome, complete, incomplete, bad}
 use Rattle.grammar.specs.Choice.{byTest}
 use Rattle.grammar.specs.Laws.{agree-event}
-use Rattle.grammar.specs.Steps.{readS, Open, Reads-on, names-on}
+use Rattle.grammar.specs.Steps.{readS, Reads-on, names-on}
 use Rattle.grammar.specs.Outcomes.{complete-reads-on, bad-stops-on, incomplete-last}
 use Rattle.grammar.specs.Added.{these, AllIn, adds-in, grown, bytesAt-length, pool-adds}
 use Rattle.grammar.specs.Remaining.{count-rows, names-of-last, names-grow, left-events, left-pool, left-more}

@@ -12,10 +12,10 @@ use lib.Dec.{ltb}
 use Rattle.wire.specs.Limits.{minWindow}
 use Rattle.event.specs.Row.{Event}
 use Rattle.grammar.specs.Grammar.{event}
-use Rattle.grammar.specs.Document.{all, Reading, reads, ended, stopped, read, events, sizes, left, total}
+use Rattle.grammar.specs.Document.{all, Reading, reads, ended, stopped, read, events, sizes, left, total, Last}
 use Rattle.grammar.specs.Choice.{byTest}
 use Rattle.grammar.specs.Steps.{chain, events-chain}
-use Rattle.grammar.specs.Outcomes.{Last, incomplete-last}
+use Rattle.grammar.specs.Outcomes.{incomplete-last}
 use Rattle.grammar.specs.Scan.{sound}
 use Rattle.stream_spec.specs.Stream.{Stream, Lent, Left, Reply, needMore, end, created, sizesBad, create, given, passed, nextFrom, next}
 use Rattle.stream_spec.specs.Branches.{next-by, nextFrom-by}

@@ -12,12 +12,12 @@ use lib.Dec.{ltb, eqb}
 use Rattle.wire.specs.Header.{u32At, magic}
 use Rattle.wire.specs.Refusal.{invalidMagic}
 use Rattle.grammar.specs.Grammar.{Span, Items, event}
-use Rattle.grammar.specs.Document.{poolBytes, all, rowsOf, poolOf, stopped, read, events, sizes, left, total}
+use Rattle.grammar.specs.Document.{poolBytes, all, rowsOf, poolOf, stopped, read, events, sizes, left, total, Open, Lasting}
 use Rattle.grammar.specs.Scan.{lengths, adds, count, Outcome, outcome, complete, incomplete, bad}
 use Rattle.grammar.specs.Choice.{cond-by}
 use Rattle.grammar.specs.Laws.{u32At-append}
-use Rattle.grammar.specs.Numbers.{Lasting, event-numbered, RefusedBy, refused-by, number-of}
-use Rattle.grammar.specs.Steps.{readS, Open, Reads-on, events-chain, sizes-chain}
+use Rattle.grammar.specs.Numbers.{event-numbered, RefusedBy, refused-by, number-of}
+use Rattle.grammar.specs.Steps.{readS, Reads-on, events-chain, sizes-chain}
 use Rattle.grammar.specs.Outcomes.{complete-reads-on, bad-stops-on, incomplete-last}
 use Rattle.grammar.specs.Remaining.{count-rows}
 use Rattle.stream_spec.specs.Stream.{Stream, Lent, Left, Reply, needMore, end, created, unchanged, sizesBad, create, given, handOut, passed, byOutcome, nextFrom, nextHeader, next}

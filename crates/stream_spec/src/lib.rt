@@ -1,1 +1,1 @@
-// The chunk reader: definitions and laws only.
+// Definitions and laws alone, in specs/; the code that meets them is the crate `stream`.

@@ -1,1 +1,1 @@
-// Demand 3 and the round trip: theorems only.
+// Theorems alone, in specs/: the round trip, and demand 3.
