@@ -1,4 +1,4 @@
-//! The listing, of the example and of the stored answers.
+//! The listing, of the example, of the document that docs/FORMAT.md takes apart, and of the stored answers.
 
 #[path = "../examples/list.rs"]
 #[allow(dead_code)]
@@ -21,6 +21,25 @@ fn listing(document: &[u8]) -> String {
 fn example() {
     let listed = "0 - - -\n2 70 - -\n15 76 6 00000003\n3 70 - -\n1 - - -\nend 4\n";
     assert_eq!(listing(&document(EXAMPLE)), listed);
+}
+
+#[test]
+fn format_document() {
+    let page = Path::new(env!("CARGO_MANIFEST_DIR")).join("../docs/FORMAT.md");
+    let page = fs::read_to_string(page).unwrap();
+    let (_, part) = page.split_once("## One document, byte by byte").unwrap();
+    let (table, rest) = part.split_once("The slice reader").unwrap();
+    let listed = rest.split("```").nth(1).unwrap().trim_start();
+    let mut document = vec![];
+    // a row has a place, the bytes there, and what they are
+    for line in table.lines() {
+        let cells: Vec<&str> = line.split('|').map(str::trim).collect();
+        if let Some(at) = cells.get(1).and_then(|at| at.parse::<usize>().ok()) {
+            assert_eq!(at, document.len(), "{line}");
+            document.extend(bytes(cells[2]));
+        }
+    }
+    assert_eq!(listing(&document), listed);
 }
 
 #[test]

@@ -6,10 +6,10 @@ pub mod select;
 
 use event::Shape;
 use quick::Taken;
-use wire::limits;
 use wire::Command;
 use wire::Refusal;
 use wire::Type;
+use wire::limits;
 ghost use mathlib.Core.Bool.{cond, true};
 ghost use mathlib.Core.Path.{_≡_};
 ghost use lib.Dec.{ltb};

@@ -1,8 +1,8 @@
 // The chunk reader over buffers that every call lends: a window where bytes wait, a pool table, and a store for the names.
 use scanner::Stepped;
-use wire::limits;
 use wire::Header;
 use wire::Refusal;
+use wire::limits;
 ghost use mathlib.Core.Bool.{_&&_};
 ghost use mathlib.Core.List.{_++_};
 ghost use mathlib.Core.Path.{_≡_};

@@ -1,10 +1,10 @@
 // The writer: a header, one event's rows, a list of events. A call first measures all that it is to write, so that a refused
 // one changes nothing, and then writes it.
 use event::Shape;
-use wire::limits;
 use wire::Command;
 use wire::Refusal;
 use wire::Type;
+use wire::limits;
 ghost use mathlib.Core.Bool.{cond, true, false};
 ghost use mathlib.Core.List.{[], _∷_};
 ghost use mathlib.Core.Path.{_≡_};
