@@ -4,15 +4,17 @@ use mathlib.Core.Bool.{Bool, true, false, not, _&&_, cond, true≢false}
 use mathlib.Core.List.{List, [], _∷_, _++_, append-nil}
 use mathlib.Core.Logic.{inr}
 use mathlib.Core.Path.{_≡_, refl, sym, _∙_}
-use Prim.Native.Nat.{ℕ, zero, suc, _≤_}
+use Prim.Native.Nat.{ℕ, zero, suc, _≤_, _<_}
 use native.Mathlib.Omega.{arith}
-use borrow.Author.Tests.{eqb-true}
-use lib.ListN.{length, drop, length-append}
+use borrow.Author.Tests.{ltb-true, eqb-true, eq-eqb}
+use lib.ListN.{length, getD, drop, length-append}
 use lib.Seq.{drop-length}
-use lib.Dec.{eqb}
+use lib.Dec.{ltb, eqb}
+use Rattle.wire.specs.Token.{command}
+use Rattle.wire.specs.Token as Token
 use Rattle.event.specs.Row.{Event}
 use Rattle.grammar.specs.Reader.{Read, got, short}
-use Rattle.grammar.specs.Grammar.{Item, Items, item, whole, lacks, stops, byte, after, thenItems, first, attributesF, event}
+use Rattle.grammar.specs.Grammar.{Item, Items, item, whole, lacks, stops, byte, after, thenItems, attribute, first, attributesF, event}
 use Rattle.grammar.specs.Document.{Pool, all, rowOf, rowsOf, poolOf, One, one, refused, ending, readOne, reads, ended, stopped, thenReading, readF, Open, Short, IsTag, Last}
 use Rattle.grammar.specs.Scan.{Outcome, complete, incomplete, bad, outcome}
 use Rattle.grammar.specs.Choice.{byTest}
@@ -107,16 +109,51 @@ bad-stops-on pool s false n d l h u v =
 
 -- ---- an incomplete event
 
+-- what follows an event's own row
+abbrev after-first : Pool → List ℕ → Item → ℕ → Items
+after-first pool s i m = cond (eqb (i .kind) Token.startTag) (attributesF all (length s) (after (length pool) i) s m) (whole m false)
+
 -- rows that end where the input ends are those of a start tag
 edge-tag : (pool : Pool) (s : List ℕ) (n : ℕ) → Ends n true (event all (length pool) s) → IsTag (rowsOf s pool (event all (length pool) s))
 unfolding event rowsOf rowOf
 edge-tag pool s n w = go (first all (length pool) s 0) w
   where
-    go : (x : Read Item) → Ends n true (thenItems x (λ i m. cond (eqb (i .kind) 2) (attributesF all (length s) (after (length pool) i) s m) (whole m false)))
-        → IsTag (rowsOf s pool (thenItems x (λ i m. cond (eqb (i .kind) 2) (attributesF all (length s) (after (length pool) i) s m) (whole m false))))
-    go (got i m) w = byTest (eqb (i .kind) 2) (λ b. eqb-true (i .kind) 2 b) (λ b. absurd (true≢false (sym ((rw b at w) .1))))
+    go : (x : Read Item) → Ends n true (thenItems x (after-first pool s)) → IsTag (rowsOf s pool (thenItems x (after-first pool s)))
+    go (got i m) w = byTest (eqb (i .kind) Token.startTag) (λ b. eqb-true (i .kind) Token.startTag b) (λ b. absurd (true≢false (sym ((rw b at w) .1))))
     go (short k) w = absurd w
     go (Read.refused k d) w = absurd w
+
+-- and a start tag that is complete before the input ends has a byte after it
+attributes-inside : (f names : ℕ) (s : List ℕ) (at n : ℕ) → Ends n false (attributesF all f names s at) → n < length s
+unfolding attributesF
+attributes-inside zero names s at n w = absurd (true≢false (w .1))
+attributes-inside (suc f) names s at n w =
+    byTest (ltb at (length s))
+    (λ b. byTest (eqb (command (getD s at 0)) Token.attribute) (λ c. go (λ i m. attributes-inside f (after names i) s m n) (attribute all names s at) (rw (b, c) at w))
+    (λ c. omega (arith, (rw (b, c) at w) .0, ltb-true at (length s) b)))
+    (λ b. absurd (true≢false ((rw b at w) .1)))
+  where
+    go : ((i : Item) (m : ℕ) → Ends n false (attributesF all f (after names i) s m) → n < length s)
+        → (x : Read Item) → Ends n false (thenItems x (λ i m. attributesF all f (after names i) s m)) → n < length s
+    go ih (got i m) w = ih i m w
+    go ih (short k) w = absurd w
+    go ih (Read.refused k d) w = absurd w
+
+tag-inside : (pool : Pool) (s : List ℕ) (n : ℕ) → Ends n false (event all (length pool) s) → IsTag (rowsOf s pool (event all (length pool) s)) → n < length s
+unfolding event rowsOf rowOf
+tag-inside pool s n w tag = go (first all (length pool) s 0) w tag
+  where
+    go : (x : Read Item) → Ends n false (thenItems x (after-first pool s)) → IsTag (rowsOf s pool (thenItems x (after-first pool s))) → n < length s
+    go (got i m) w tag = attributes-inside (length s) (after (length pool) i) s m n (rw (eq-eqb (i .kind) Token.startTag tag) at w)
+    go (short k) w tag = absurd w
+    go (Read.refused k d) w tag = absurd w
+
+pub tag-followed : (pool : Pool) (s : List ℕ) (n : ℕ) → outcome false (event all (length pool) s) ≡ complete n → IsTag (rowsOf s pool (event all (length pool) s)) → n < length s
+tag-followed pool s n h tag = let x = ends-of false n (event all (length pool) s) h in go (x .0) (x .1) (x .2)
+  where
+    go : (e : Bool) → Ends n e (event all (length pool) s) → (e && true) ≡ false → n < length s
+    go true w c = absurd (true≢false c)
+    go false w c = tag-inside pool s n w tag
 
 -- one event's reading that leaves no byte of k, or no event
 abbrev Spent : ℕ → One → Type 0

@@ -146,15 +146,23 @@ pub record Sound (t : Trace) : Type 0 where
   pub waiting : slice (t .stream .start) (t .stream .end) (t .lent .window) ≡ drop (consumed t) (t .accepted)
   -- End means that all that the grammar reads from the accepted bytes came out
   pub exact : t .ended ≡ true → t .handed ≡ events (read (t .accepted))
-  -- and that it read to its end, with none waiting
-  pub drained : t .ended ≡ true → (waits (t .stream) ≡ 0) × (lastPool (read (t .accepted)) ≡ none → ⊥)
+  -- and, "finished, header passed, none waiting", that it read to its end
+  pub drained : t .ended ≡ true → (t .stream .finished ≡ true) × (t .stream .header ≡ true) × (waits (t .stream) ≡ 0) × (lastPool (read (t .accepted)) ≡ none → ⊥)
 
--- ---- what is claimed after a NeedMore
+-- ---- when a next needs more, and what is claimed after it
 
--- Of "NeedMore: exactly when unfinished, header or event incomplete, and the window isn't full" this is a part: no NeedMore
--- holds back an event that could be handed out. No finish was accepted, a feed has room, and of the events that the grammar reads from the
--- accepted bytes at most one is not handed out, which ends where they end (a start tag, since more attributes may follow).
--- And it stands for no refusal but of bytes that lack. All of the sentence is `next` itself
+-- "exactly when unfinished, header or event incomplete, and the window isn't full": the grammar, were the accepted bytes all, would be left
+-- with `Last` of those that wait, "counted without a header just passed". Fewer than four bytes are no header, and nothing is counted
+pub record Incomplete (t : Trace) : Type 0 where
+  pub unfinished : t .finished ≡ false
+  pub waiting : ℕ
+  pub counted : 4 ≤ length (t .accepted) → length (t .accepted) ≡ 4 + total (take (length (t .handed)) (sizes (read (t .accepted)))) + waiting
+  pub lacking : Last waiting (left (length (t .handed)) (read (t .accepted)))
+  pub feedable : waiting < length (t .lent .window)
+
+-- No NeedMore holds back an event that could be handed out. No finish was accepted, a feed has room, and of the events that the grammar reads
+-- from the accepted bytes at most one is not handed out, which ends where they end (a start tag, since more attributes may follow).
+-- And it stands for no refusal but of bytes that lack
 pub record Prompt (t : Trace) : Type 0 where
   pub unfinished : t .finished ≡ false
   pub feedable : waits (t .stream) < length (t .lent .window)

@@ -100,7 +100,7 @@ holds-sound t h =
       drained = λ o.
           let a = h .at-end o in
           let z : s ≡ [] = rw (a .2) (slice-empty (t .stream .end) (t .lent .window)) in
-          (omega (arith, a .2), λ q. no-some (t .handed) (h .ns) (h .pool) (h .as-many) (sym (ap lastPool (e ∙ rw (a .1, z))) ∙ q));
+          (a .0, a .1, omega (arith, a .2), λ q. no-some (t .handed) (h .ns) (h .pool) (h .as-many) (sym (ap lastPool (e ∙ rw (a .1, z))) ∙ q));
     }
 
 -- it holds at the start

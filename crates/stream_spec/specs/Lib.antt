@@ -6,4 +6,5 @@ pub mod Invariant
 pub mod Lively
 pub mod Prompt
 pub mod Refusals
+pub mod Incomplete
 pub mod Runs
