@@ -107,6 +107,10 @@ bad-stops-on pool s false n d l h u v =
     bad-stops pool (s ++ u) n d (omega (arith, length-append s u, bad-bytes (length pool) s n d h))
     (one-outcome pool (s ++ u) (bad n d) (bad-again s u 1 n d (length pool) (event all (length pool) s) _ (agree-event s u all (length pool)) h))
 
+pub bad-stops-here : (pool : Pool) (s : List ℕ) (finished : Bool) (n d : ℕ) → (finished ≡ true → 1 ≤ length s) → outcome finished (event all (length pool) s) ≡ bad n d
+    → Open finished [] → readS pool s ≡ stopped n d
+bad-stops-here pool s finished n d l h v = rw (append-nil s) at (bad-stops-on pool s finished n d l h [] v)
+
 -- ---- an incomplete event
 
 -- what follows an event's own row

@@ -219,6 +219,11 @@ reads-on-edge pool s n w =
       same-names = λ u z. rw (z, append-nil s);
     }
 
+-- of the bytes as they stand
+pub reads-here : (pool : Pool) (s : List ℕ) (fin : Bool) (n : ℕ) (is : Items) → Reads-on pool s fin n is → Open fin []
+    → readS pool s ≡ reads (rowsOf s pool is) n (readS (poolOf s pool is) (drop n s))
+reads-here pool s fin n is on v = rw (append-nil s, append-nil (drop n s)) at (on .onward [] v)
+
 -- the names from there on
 pub names-on : (pool : Pool) (s : List ℕ) (fin : Bool) (n : ℕ) (is : Items) → Reads-on pool s fin n is → (u : List ℕ) → Open fin u
     → namesFrom (readS pool (s ++ u)) pool (s ++ u) ≡ namesFrom (readS (poolOf s pool is) (drop n s ++ u)) (poolOf s pool is) (drop n s ++ u)

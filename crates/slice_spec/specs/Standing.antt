@@ -1,6 +1,6 @@
 -- What stands at a place of the document, where the pool table holds the pool: the next event of the reading, its refusal, or its end.
 use mathlib.Core.Bool.{true, true≢false}
-use mathlib.Core.List.{List, [], _++_, append-nil}
+use mathlib.Core.List.{List, [], _++_}
 use mathlib.Core.Path.{_≡_, refl, sym, ap, _∙_}
 use Prim.Native.Nat.{ℕ, zero, suc, _+_, _*_, _-_, _≤_}
 use native.Mathlib.Omega.{arith}
@@ -14,7 +14,7 @@ use Rattle.grammar.specs.Document.{Pool, all, rowsOf, poolOf, one, readOne, rea
 use Rattle.grammar.specs.Scan.{adds, pairs, count, words, Outcome, complete, incomplete, bad, outcome}
 use Rattle.grammar.specs.Choice.{byTest}
 use Rattle.grammar.specs.Laws.{Agree, agree-event}
-use Rattle.grammar.specs.Steps.{readS, Reads-on}
+use Rattle.grammar.specs.Steps.{readS, Reads-on, reads-here}
 use Rattle.grammar.specs.Outcomes.{complete-reads-on, one-outcome, bad-stops, incomplete-last}
 use Rattle.grammar.specs.Added.{these, AllIn, adds-in, grown, pool-adds}
 use Rattle.grammar.specs.Said.{rows-say}
@@ -102,7 +102,7 @@ module _ (document : List ℕ) (pool : Pool) (p : Place) (table : List ℕ) (h :
         later = later;
         rows-of = refl;
         alone = rw items (one-outcome pool s (complete n) (rw items at o));
-        reading = rw (append-nil s, append-nil (drop n s), drop-drop n (p .at) document) at (on .onward [] refl);
+        reading = rw (drop-drop n (p .at) document) at (reads-here pool s true n is on refl);
         some-bytes = on .some-bytes;
         within = omega (arith, on .within);
         as-many = count-rows s pool is;

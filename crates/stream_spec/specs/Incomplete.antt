@@ -1,27 +1,27 @@
 -- A next needs more exactly when the header or the event is incomplete, no finish came, and the window is not full.
 use mathlib.Core.Bool.{Bool, false, _&&_, cond, true≢false}
-use mathlib.Core.List.{List, [], _∷_, append-nil}
+use mathlib.Core.List.{List, [], _∷_}
 use mathlib.Core.Logic.{_⊎_, inl, inr}
 use mathlib.Core.Path.{_≡_, refl, sym, ap, _∙_}
 use Prim.Native.Nat.{ℕ, _+_, _-_, _≤_}
 use native.Mathlib.Omega.{arith}
 use borrow.Author.Tests.{ltb-false, eqb-true, eqb-false, le-leb}
-use lib.ListN.{length, take, drop}
+use lib.ListN.{length}
 use lib.Seq.{slice, length-slice}
 use lib.Dec.{ltb, eqb}
 use Rattle.wire.specs.Header.{u32At, magic}
 use Rattle.wire.specs.Refusal.{headerShort}
 use Rattle.grammar.specs.Grammar.{Items, event}
-use Rattle.grammar.specs.Document.{all, rowsOf, poolOf, reads, stopped, read, sizes, total, left, Short, Lasting, Last}
+use Rattle.grammar.specs.Document.{all, read, left, Short, Lasting, Last}
 use Rattle.grammar.specs.Scan.{Outcome, outcome, complete, incomplete, bad}
 use Rattle.grammar.specs.Choice.{cond-by}
 use Rattle.grammar.specs.Numbers.{event-numbered, refused-by}
-use Rattle.grammar.specs.Steps.{readS, Reads-on, sizes-chain}
-use Rattle.grammar.specs.Outcomes.{complete-reads-on, bad-stops-on, tag-followed}
+use Rattle.grammar.specs.Steps.{readS, Reads-on, reads-here}
+use Rattle.grammar.specs.Outcomes.{complete-reads-on, bad-stops-here, tag-followed}
 use Rattle.stream_spec.specs.Stream.{Stream, Lent, Left, needMore, end, created, unchanged, sizesBad, create, passed, byOutcome, nextFrom, nextHeader, next}
 use Rattle.stream_spec.specs.Calls.{Call, call-next, Trace, handedBy, headerBy, afterNext, step, run, start, consumed, waits, Incomplete, Prompt}
-use Rattle.stream_spec.specs.Invariant.{Inv, Holds, open-nil, left-read, passed-on, passing, u32At-slice, holds-start, holds-sound, holds-step, created-fresh, holds-created}
-use Rattle.stream_spec.specs.Lively.{other-read, from-items, next-good, run-sizes, run-finished, sizes-stay-good}
+use Rattle.stream_spec.specs.Invariant.{Inv, Holds, passed-on, passing, u32At-slice, holds-sound, holds-step, left-here, handed-bytes}
+use Rattle.stream_spec.specs.Lively.{other-read, from-items, next-good, run-sizes, after-calls}
 use Rattle.stream_spec.specs.Prompt.{prompt}
 
 -- bytes that lack and a refusal that stays are two things
@@ -63,29 +63,22 @@ module _ (t : Trace) (h : Holds t) (ok : sizesBad (t .lent) ≡ false) (mark : t
 
       -- the bytes that wait are counted, and what is left is read of them
       as-many : i .waiting ≡ length s
-      as-many =
-          let c : read (t .accepted) ≡ _ = ap read (sym (append-nil (t .accepted))) ∙ p .onward [] (open-nil (r .finished)) in
-          let ns : total (take (length (t .handed)) (sizes (read (t .accepted)))) ≡ total (p .ns) = rw c (ap total (sizes-chain (t .handed) (p .ns) _ (p .as-many))) in
-          omega (arith, i .counted (omega (arith, p .sum)), ns, p .sum, ls)
+      as-many = omega (arith, i .counted (omega (arith, p .sum)), handed-bytes (passed r from) l (t .accepted) (t .handed) 4 (t .ended) p, p .sum, ls)
 
       here : Last (length s) (readS (p .pool) s)
-      here =
-          let e : left (length (t .handed)) (read (t .accepted)) ≡ readS (p .pool) s =
-          rw (append-nil (t .accepted), append-nil s) at (left-read (passed r from) l (t .accepted) (t .handed) 4 (t .ended) p [] (open-nil (r .finished))) in
-          rw (e, as-many) at (i .lacking)
+      here = rw (left-here (passed r from) l (t .accepted) (t .handed) 4 (t .ended) p, as-many) at (i .lacking)
 
       go : (o : Outcome) → outcome false is ≡ o → P (byOutcome r l rows from is o)
       go (complete n) o =
           let on : Reads-on (p .pool) s false n is = complete-reads-on (p .pool) s false n o in
-          let e : readS (p .pool) s ≡ reads (rowsOf s (p .pool) is) n (readS (poolOf s (p .pool) is) (drop n s)) = rw (append-nil s, append-nil (drop n s)) at (on .onward [] tt) in
-          let w = rw e at here in
+          let w = rw (reads-here (p .pool) s false n is on tt) at here in
           absurd (omega (arith, w .0, tag-followed (p .pool) s n o (w .2)))
       go incomplete o =
           cond-by P (eqb (r .end - from) (length (l .window))) _ _
           (λ a. absurd (omega (arith, i .feedable, as-many, ls, eqb-true (r .end - from) (length (l .window)) a)))
           (λ _. refl)
       go (bad m c) o =
-          let e : readS (p .pool) s ≡ stopped m c = rw (append-nil s) at (bad-stops-on (p .pool) s false m c (λ f. absurd (true≢false (sym f))) o [] tt) in
+          let e = bad-stops-here (p .pool) s false m c (λ f. absurd (true≢false (sym f))) o tt in
           absurd (not-both m (refused-by false is m c (event-numbered (length (p .pool)) s) o) ((rw e at here) .0))
 
   next-more : P (next r l rows)
@@ -101,8 +94,7 @@ module _ (t : Trace) (h : Holds t) (ok : sizesBad (t .lent) ≡ false) (mark : t
       (λ b.
       let s : List ℕ = slice (r .start) (r .end) (l .window) in
       let ls : length s ≡ r .end - r .start = length-slice (r .start) (r .end) (l .window) (h .placed) in
-      let e : left (length (t .handed)) (read (t .accepted)) ≡ read s =
-      rw (append-nil (t .accepted), append-nil s, hd) at (left-read r l (t .accepted) (t .handed) (t .header) (t .ended) h [] (open-nil (r .finished))) in
+      let e : left (length (t .handed)) (read (t .accepted)) ≡ read s = rw hd at (left-here r l (t .accepted) (t .handed) (t .header) (t .ended) h) in
       let m : u32At s 0 ≡ u32At (l .window) (r .start) = u32At-slice (l .window) (r .start) (r .end) (omega arith) in
       absurd (no-two ((rw (e, other-read s (omega (arith, ls)) (λ z. eqb-false _ _ b (sym m ∙ z))) at (i .lacking)) .0))))))
     where
@@ -133,9 +125,5 @@ pub need-more : (r : Stream) (l : Lent) → create l ≡ created r → (cs : Lis
     × (Incomplete (run (start r l) cs) → next (run (start r l) cs .stream) (run (start r l) cs .lent) rows .reply ≡ needMore)
 need-more r l c cs rows =
     let t : Trace = run (start r l) cs in
-    let f = created-fresh r l c in
-    let at-start : Holds (start r l) = rw (f .is-fresh) (holds-start l) in (
-      λ q. more-incomplete t rows (holds-created r l c cs) q (prompt r l c cs rows q),
-      next-more t (holds-created r l c cs) (sizes-stay-good (t .lent) l (run-sizes cs (start r l) at-start) (f .sizes-good))
-          (run-finished cs (start r l) at-start (rw (f .is-fresh))) rows,
-    )
+    let a = after-calls r l c cs in
+    (λ q. more-incomplete t rows (a .holds) q (prompt r l c cs rows q), next-more t (a .holds) (a .sizes-good) (a .marked) rows)

@@ -72,6 +72,20 @@ pub left-read : (r : Stream) (l : Lent) (acc : List ℕ) (handed : List Event) (
     → left (length handed) (read (acc ++ u)) ≡ resume (r .header) (h .pool) (slice (r .start) (r .end) (l .window) ++ u)
 left-read r l acc handed header over h u v = rw (h .onward u v) (left-chain handed (h .ns) _ (h .as-many))
 
+-- the same, were the accepted bytes all: what is read of them, what is left of that, and how many bytes the events handed out have
+module _ (r : Stream) (l : Lent) (acc : List ℕ) (handed : List Event) (header : ℕ) (over : Bool) (h : Inv r l acc handed header over) where
+  abbrev unread : Reading
+  unread = resume (r .header) (h .pool) (slice (r .start) (r .end) (l .window))
+
+  pub read-here : read acc ≡ chain handed (h .ns) unread
+  read-here = ap read (sym (append-nil acc)) ∙ h .onward [] (open-nil (r .finished)) ∙ rw (append-nil (slice (r .start) (r .end) (l .window)))
+
+  pub left-here : left (length handed) (read acc) ≡ unread
+  left-here = rw read-here (left-chain handed (h .ns) unread (h .as-many))
+
+  pub handed-bytes : total (take (length handed) (sizes (read acc))) ≡ total (h .ns)
+  handed-bytes = rw (read-here, sizes-chain handed (h .ns) unread (h .as-many))
+
 -- a reading that ends after these events does not stop
 no-some : (es : List Event) (ns : List ℕ) (p : Pool) → length ns ≡ length es → lastPool (chain es ns (readS p [])) ≡ none → ⊥
 unfolding lastPool readS readF
@@ -85,9 +99,8 @@ pub holds-sound : (t : Trace) → Holds t → Sound t
 unfolding consumed events readS readF
 holds-sound t h =
     let s : List ℕ = slice (t .stream .start) (t .stream .end) (t .lent .window) in
-    let e : read (t .accepted) ≡ chain (t .handed) (h .ns) (resume (t .stream .header) (h .pool) s) =
-    ap read (sym (append-nil (t .accepted))) ∙ h .onward [] (open-nil (t .stream .finished)) ∙ rw (append-nil s) in
-    let c : total (take (length (t .handed)) (sizes (read (t .accepted)))) ≡ total (h .ns) = rw (e, sizes-chain (t .handed) (h .ns) (resume (t .stream .header) (h .pool) s) (h .as-many)) in
+    let e : read (t .accepted) ≡ chain (t .handed) (h .ns) (resume (t .stream .header) (h .pool) s) = read-here (t .stream) (t .lent) (t .accepted) (t .handed) (t .header) (t .ended) h in
+    let c : total (take (length (t .handed)) (sizes (read (t .accepted)))) ≡ total (h .ns) = handed-bytes (t .stream) (t .lent) (t .accepted) (t .handed) (t .header) (t .ended) h in
     record {
       rest = events (resume (t .stream .header) (h .pool) s);
       beginning = rw e (sym (events-chain (t .handed) (h .ns) (resume (t .stream .header) (h .pool) s) (h .as-many)));

@@ -18,15 +18,15 @@ use Rattle.grammar.specs.Document.{Pool, poolBytes, all, rowsOf, poolOf, Readin
 use Rattle.grammar.specs.Scan.{lengths, adds, count, Outcome, outcome, complete, incomplete, bad}
 use Rattle.grammar.specs.Choice.{byTest}
 use Rattle.grammar.specs.Laws.{agree-event}
-use Rattle.grammar.specs.Steps.{readS, Reads-on, names-on}
-use Rattle.grammar.specs.Outcomes.{complete-reads-on, bad-stops-on, incomplete-last}
+use Rattle.grammar.specs.Steps.{readS, Reads-on, names-on, reads-here}
+use Rattle.grammar.specs.Outcomes.{complete-reads-on, incomplete-last, bad-stops-here}
 use Rattle.grammar.specs.Added.{these, AllIn, adds-in, grown, bytesAt-length, pool-adds}
 use Rattle.grammar.specs.Remaining.{count-rows, names-of-last, names-grow, left-events, left-pool, left-more}
 use Rattle.stream_spec.specs.Stream.{Stream, Lent, Left, Reply, gives, end, created, unchanged, sizesBad, stateBad, checked, create, fitting, fed, feed, finish, given, handOut, passed, byOutcome, nextFrom, nextHeader, next}
 use Rattle.stream_spec.specs.Branches.{feed-by, finish-by, next-by, nextFrom-by}
 use Rattle.stream_spec.specs.Calls.{Call, call-feed, call-next, call-finish, Trace, handedBy, finishedBy, afterFeed, afterNext, afterFinish, step, run, start, Room, Delivers, Answers}
 use Rattle.stream_spec.specs.Held.{poolBytes-append}
-use Rattle.stream_spec.specs.Invariant.{Inv, Holds, open-nil, left-read, sound-all, passed-on, passing, u32At-slice, holds-sound, holds-step, holds-start, created-fresh, holds-created}
+use Rattle.stream_spec.specs.Invariant.{Inv, Holds, open-nil, sound-all, passed-on, passing, u32At-slice, holds-sound, holds-step, holds-start, created-fresh, holds-created, left-here}
 
 -- ---- one call of next, by what is left to read
 
@@ -118,7 +118,7 @@ module _ (r : Stream) (l : Lent) (acc : List ℕ) (handed : List Event) (over : 
         go : (from ≡ r .end → ⊥) → (o : Outcome) → outcome true is ≡ o → Says r l rows (namesOf acc) (readS (p .pool) s) (nextFrom r l rows from)
         go ne (complete n) o =
             let on : Reads-on (p .pool) s true n is = complete-reads-on (p .pool) s true n o in
-            let e : readS (p .pool) s ≡ reads (rowsOf s (p .pool) is) n (readS later (drop n s)) = rw (append-nil s, append-nil (drop n s)) at (on .onward [] refl) in
+            let e : readS (p .pool) s ≡ reads (rowsOf s (p .pool) is) n (readS later (drop n s)) = reads-here (p .pool) s true n is on refl in
             let g = names-more n (rw fin on) [] (open-nil (r .finished)) in
             let names : namesOf acc ≡ later ++ g .0 = ap namesOf (sym (append-nil acc)) ∙ g .1 in
             let c : count is ≡ length (rowsOf s (p .pool) is) = count-rows s (p .pool) is in
@@ -132,7 +132,7 @@ module _ (r : Stream) (l : Lent) (acc : List ℕ) (handed : List Event) (over : 
             )
         go ne incomplete o = absurd (true≢false (incomplete-last (p .pool) s true o .0))
         go ne (bad n d) o =
-            let e : readS (p .pool) s ≡ stopped n d = rw (append-nil s) at (bad-stops-on (p .pool) s true n d (λ _. some-byte (length s) (λ z. ne (omega (arith, p .ordered, ls)))) o [] refl) in
+            let e : readS (p .pool) s ≡ stopped n d = bad-stops-here (p .pool) s true n d (λ _. some-byte (length s) (λ z. ne (omega (arith, p .ordered, ls)))) o refl in
             rw e (from-is (bad n d) ne o)
 
 -- a trace that holds is in no bad state
@@ -178,7 +178,7 @@ module _ (t : Trace) (h : Holds t) (ok : sizesBad (t .lent) ≡ false) (rows : L
         → Says r l rows (namesOf (t .accepted)) rest (next r l rows)
     says-from from p e =
         let s : List ℕ = slice from (r .end) (l .window) in
-        let q : rest ≡ readS (p .pool) s = rw (append-nil (t .accepted), append-nil s) at (left-read (passed r from) l (t .accepted) (t .handed) 4 (t .ended) p [] (open-nil (r .finished))) in
+        let q : rest ≡ readS (p .pool) s = left-here (passed r from) l (t .accepted) (t .handed) 4 (t .ended) p in
         rw (q, e) (from-says r l (t .accepted) (t .handed) (t .ended) from p fin rows)
 
     next-says : Says r l rows (namesOf (t .accepted)) rest (next r l rows)
@@ -186,8 +186,7 @@ module _ (t : Trace) (h : Holds t) (ok : sizesBad (t .lent) ≡ false) (rows : L
         byTest (r .header)
         (λ hd. says-from (r .start) (passed-on r l (t .accepted) (t .handed) (t .header) (t .ended) h hd) (next-good ∙ rw hd))
         (λ hd.
-        let q : rest ≡ read waiting =
-        rw (append-nil (t .accepted), append-nil waiting, hd) at (left-read r l (t .accepted) (t .handed) (t .header) (t .ended) h [] (open-nil (r .finished))) in
+        let q : rest ≡ read waiting = rw hd at (left-here r l (t .accepted) (t .handed) (t .header) (t .ended) h) in
         byTest (ltb (r .end - r .start) 4)
         (λ a. rw (q, few-read waiting (omega (arith, ls, ltb-true (r .end - r .start) 4 a))) (next-good ∙ rw hd (unfold nextHeader in rw (a, fin))))
         (λ a.
@@ -303,6 +302,24 @@ unfolding run
 run-finished [] t h k = k
 run-finished (c ∷ cs) t h k = run-finished cs (step t c) (holds-step t c h) (step-finished t c h k)
 
+-- what holds of a created reader after any calls
+pub record After (t : Trace) : Type 0 where
+  pub holds : Holds t
+  pub sizes-good : sizesBad (t .lent) ≡ false
+  pub marked : t .finished ≡ t .stream .finished
+
+at-start : (r : Stream) (l : Lent) → create l ≡ created r → Holds (start r l)
+at-start r l c = rw (created-fresh r l c .is-fresh) (holds-start l)
+
+pub after-calls : (r : Stream) (l : Lent) → create l ≡ created r → (cs : List Call) → After (run (start r l) cs)
+after-calls r l c cs =
+    let f = created-fresh r l c in
+    record {
+      holds = holds-created r l c cs;
+      sizes-good = sizes-stay-good (run (start r l) cs .lent) l (run-sizes cs (start r l) (at-start r l c)) (f .sizes-good);
+      marked = run-finished cs (start r l) (at-start r l c) (rw (f .is-fresh));
+    }
+
 -- ---- the events that are left, one by one
 
 -- a beginning is as much of the list as it is long
@@ -351,12 +368,9 @@ pub agreement : (r : Stream) (l : Lent) → create l ≡ created r → (cs : Lis
     → Answers (left (length (run (start r l) cs .handed)) (read (run (start r l) cs .accepted))) (run (start r l) cs)
 agreement r l c cs room fin =
     let t : Trace = run (start r l) cs in
-    let f = created-fresh r l c in
-    let at-start : Holds (start r l) = rw (f .is-fresh) (holds-start l) in
-    let same : Same-sizes (t .lent) l = run-sizes cs (start r l) at-start in
-    let marked : start r l .finished ≡ r .finished = rw (f .is-fresh) in
-    answers _ t (holds-created r l c cs) (sym (run-finished cs (start r l) at-start marked) ∙ fin)
-    (sizes-stay-good (t .lent) l same (f .sizes-good)) (room-stays (namesOf (t .accepted)) (t .lent) l same room) refl
+    let a = after-calls r l c cs in
+    answers _ t (a .holds) (sym (a .marked) ∙ fin) (a .sizes-good)
+    (room-stays (namesOf (t .accepted)) (t .lent) l (run-sizes cs (start r l) (at-start r l c)) room) refl
 
 -- of a document that is read to its end, so that demand 3 can be told of its events alone
 delivers : (rd : Reading) (t : Trace) (names : Pool) → lastPool rd ≡ some names → Answers rd t → Delivers (events rd) t

@@ -1,6 +1,6 @@
 -- No NeedMore holds back an event that could be handed out, or a refusal.
 use mathlib.Core.Bool.{Bool, false, true≢false}
-use mathlib.Core.List.{List, [], _∷_, _++_, append-nil}
+use mathlib.Core.List.{List, [], _∷_, _++_}
 use mathlib.Core.Logic.{inl}
 use mathlib.Core.Path.{_≡_, refl, sym, ap, _∙_}
 use Prim.Native.Nat.{ℕ, _+_, _-_, _≤_}
@@ -20,8 +20,8 @@ use Rattle.grammar.specs.Scan.{sound}
 use Rattle.stream_spec.specs.Stream.{Stream, Lent, Left, Reply, needMore, end, created, sizesBad, create, given, passed, nextFrom, next}
 use Rattle.stream_spec.specs.Branches.{next-by, nextFrom-by}
 use Rattle.stream_spec.specs.Calls.{Call, call-next, Trace, handedBy, headerBy, afterNext, step, run, start, waits, Prompt}
-use Rattle.stream_spec.specs.Invariant.{Inv, Holds, resume, open-nil, left-read, total-snoc, sound-all, passed-on, passing, few-accepted, holds-start, created-fresh, holds-created}
-use Rattle.stream_spec.specs.Lively.{few-read, run-sizes, run-finished, sizes-stay-good}
+use Rattle.stream_spec.specs.Invariant.{Inv, Holds, resume, total-snoc, sound-all, passed-on, passing, few-accepted, read-here, left-here}
+use Rattle.stream_spec.specs.Lively.{few-read, after-calls}
 
 -- ---- the invariant, where at most one event is left
 
@@ -48,8 +48,7 @@ at-most-one : (r : Stream) (l : Lent) (acc : List ℕ) (handed : List Event) (he
     → (e : Event) (es : List Event) → handed ++ (e ∷ es) ≡ events (read acc) → (es ≡ []) × (length acc ≡ header + total (sizes (read acc)))
 at-most-one r l acc handed header over h w e es q =
     let rest : Reading = resume (r .header) (h .pool) (slice (r .start) (r .end) (l .window)) in
-    let is-chain : read acc ≡ chain handed (h .ns) rest =
-    ap read (sym (append-nil acc)) ∙ h .onward [] (open-nil (r .finished)) ∙ rw (append-nil (slice (r .start) (r .end) (l .window))) in
+    let is-chain : read acc ≡ chain handed (h .ns) rest = read-here r l acc handed header over h in
     let left : e ∷ es ≡ events rest =
     sym (drop-append-seam handed (e ∷ es)) ∙ ap (λ (x : List Event). drop (length handed) x) (q ∙ rw is-chain (events-chain handed (h .ns) rest (h .as-many)))
     ∙ drop-append-seam handed (events rest) in
@@ -60,10 +59,7 @@ at-most-one r l acc handed header over h w e es q =
 -- what is left, as it was found
 awaited : (r : Stream) (l : Lent) (acc : List ℕ) (handed : List Event) (header : ℕ) (over : Bool) (h : Inv r l acc handed header over)
     → Last (waits r) (resume (r .header) (h .pool) (slice (r .start) (r .end) (l .window))) → Last (waits r) (left (length handed) (read acc))
-awaited r l acc handed header over h w =
-    let e : left (length handed) (read acc) ≡ resume (r .header) (h .pool) (slice (r .start) (r .end) (l .window)) =
-    rw (append-nil acc, append-nil (slice (r .start) (r .end) (l .window))) at (left-read r l acc handed header over h [] (open-nil (r .finished))) in
-    rw e w
+awaited r l acc handed header over h w = rw (left-here r l acc handed header over h) w
 
 -- ---- the answers of next
 
@@ -126,9 +122,4 @@ module _ (t : Trace) (rows : List ℕ) (h : Holds t) (ok : sizesBad (t .lent) �
 pub prompt : (r : Stream) (l : Lent) → create l ≡ created r → (cs : List Call) (rows : List ℕ)
     → next (run (start r l) cs .stream) (run (start r l) cs .lent) rows .reply ≡ needMore → Prompt (step (run (start r l) cs) (call-next rows))
 unfolding step
-prompt r l c cs rows =
-    let t : Trace = run (start r l) cs in
-    let f = created-fresh r l c in
-    let at-start : Holds (start r l) = rw (f .is-fresh) (holds-start l) in
-    next-prompt t rows (holds-created r l c cs) (sizes-stay-good (t .lent) l (run-sizes cs (start r l) at-start) (f .sizes-good))
-    (run-finished cs (start r l) at-start (rw (f .is-fresh)))
+prompt r l c cs rows = let a = after-calls r l c cs in next-prompt (run (start r l) cs) rows (a .holds) (a .sizes-good) (a .marked)

@@ -1,31 +1,31 @@
 -- What a refused next says of the document, after every list of calls.
 use mathlib.Core.Bool.{Bool, false, _&&_, true≢false}
-use mathlib.Core.List.{List, [], _++_, append-nil}
+use mathlib.Core.List.{List, _++_, append-nil}
 use mathlib.Core.Logic.{_⊎_, inl, inr}
 use mathlib.Core.Path.{_≡_, refl, sym, ap, _∙_, subst}
 use Prim.Native.Nat.{ℕ, _+_, _*_, _-_, _/_, _≤_}
 use native.Mathlib.Omega.{arith}
 use borrow.Author.Tests.{ltb-true, ltb-false, eqb-true, eqb-false, eq-eqb}
-use lib.ListN.{length, take, drop, length-append}
+use lib.ListN.{length, drop, length-append}
 use lib.Seq.{slice, length-slice}
 use lib.Dec.{ltb, eqb}
 use Rattle.wire.specs.Header.{u32At, magic}
 use Rattle.wire.specs.Refusal.{invalidMagic}
 use Rattle.grammar.specs.Grammar.{Span, Items, event}
-use Rattle.grammar.specs.Document.{poolBytes, all, rowsOf, poolOf, stopped, read, events, sizes, left, total, Open, Lasting}
+use Rattle.grammar.specs.Document.{poolBytes, all, rowsOf, poolOf, stopped, events, Open, Lasting}
 use Rattle.grammar.specs.Scan.{lengths, adds, count, Outcome, outcome, complete, incomplete, bad}
 use Rattle.grammar.specs.Choice.{cond-by}
 use Rattle.grammar.specs.Laws.{u32At-append}
 use Rattle.grammar.specs.Numbers.{event-numbered, RefusedBy, refused-by, number-of}
-use Rattle.grammar.specs.Steps.{readS, Reads-on, events-chain, sizes-chain}
+use Rattle.grammar.specs.Steps.{readS, Reads-on, events-chain}
 use Rattle.grammar.specs.Outcomes.{complete-reads-on, bad-stops-on, incomplete-last}
 use Rattle.grammar.specs.Remaining.{count-rows}
 use Rattle.stream_spec.specs.Stream.{Stream, Lent, Left, Reply, needMore, end, created, unchanged, sizesBad, create, given, handOut, passed, byOutcome, nextFrom, nextHeader, next}
 use Rattle.stream_spec.specs.Branches.{next-by, nextFrom-by}
 use Rattle.stream_spec.specs.Calls.{Call, call-next, Trace, handedBy, headerBy, endedBy, afterNext, step, run, start, Stops, Next-is, Refused, by-grammar, few-rows, short-table, short-store, full-window}
 use Rattle.stream_spec.specs.Held.{poolBytes-append}
-use Rattle.stream_spec.specs.Invariant.{Inv, Holds, resume, open-nil, left-read, passed-on, passing, u32At-slice, holds-start, created-fresh, holds-created}
-use Rattle.stream_spec.specs.Lively.{few-read, other-read, some-byte, from-items, grew-pairs, grew-bytes, names-more, next-good, run-sizes, run-finished, sizes-stay-good}
+use Rattle.stream_spec.specs.Invariant.{Inv, Holds, resume, left-read, passed-on, passing, u32At-slice, left-here, handed-bytes}
+use Rattle.stream_spec.specs.Lively.{few-read, other-read, some-byte, from-items, grew-pairs, grew-bytes, names-more, next-good, after-calls}
 
 -- ---- a refused next leaves all as it was, so it is refused again
 
@@ -132,10 +132,8 @@ module _ (t : Trace) (h : Holds t) (ok : sizesBad (t .lent) ≡ false) (mark : t
           (λ a q.
           let g = incomplete-last (p .pool) s (r .finished) o in
           let w : length s ≡ length (l .window) = ls ∙ eqb-true _ _ a in
-          let e : left (length (t .handed)) (read (t .accepted)) ≡ readS (p .pool) s =
-          rw (append-nil (t .accepted), append-nil s) at (left-read (passed r from) l (t .accepted) (t .handed) 4 (t .ended) p [] (open-nil (r .finished))) in
-          let c : read (t .accepted) ≡ _ = ap read (sym (append-nil (t .accepted))) ∙ p .onward [] (open-nil (r .finished)) in
-          let ns : total (take (length (t .handed)) (sizes (read (t .accepted)))) ≡ total (p .ns) = rw c (ap total (sizes-chain (t .handed) (p .ns) _ (p .as-many))) in
+          let e = left-here (passed r from) l (t .accepted) (t .handed) 4 (t .ended) p in
+          let ns = handed-bytes (passed r from) l (t .accepted) (t .handed) 4 (t .ended) p in
           full-window (mark ∙ g .0) (rw (e, ← w) (g .1)) (omega (arith, ns, p .sum, ls, w)) (sym (cc q)) (sym (cc q)))
           (λ _ q. let z : _≡_ {A = ℕ} 0 1 = cc q in absurd (omega arith))
       go going (bad m c) o = λ q.
@@ -176,9 +174,4 @@ module _ (t : Trace) (h : Holds t) (ok : sizesBad (t .lent) ≡ false) (mark : t
 -- after every list of calls
 pub refusals : (r : Stream) (l : Lent) → create l ≡ created r → (cs : List Call) (rows : List ℕ) (n d : ℕ)
     → next (run (start r l) cs .stream) (run (start r l) cs .lent) rows .reply ≡ Reply.refused n d → Refused (run (start r l) cs) rows n d
-refusals r l c cs rows n d =
-    let t : Trace = run (start r l) cs in
-    let f = created-fresh r l c in
-    let at-start : Holds (start r l) = rw (f .is-fresh) (holds-start l) in
-    next-refused t (holds-created r l c cs) (sizes-stay-good (t .lent) l (run-sizes cs (start r l) at-start) (f .sizes-good))
-    (run-finished cs (start r l) at-start (rw (f .is-fresh))) rows n d
+refusals r l c cs rows n d = let a = after-calls r l c cs in next-refused (run (start r l) cs) (a .holds) (a .sizes-good) (a .marked) rows n d
