@@ -1,0 +1,27 @@
+//! Holds the static libraries against models that were written from the papers' words, apart from the code: `models [SEED]`.
+
+mod names;
+#[path = "../differential/ours.rs"]
+#[allow(dead_code)] // the comparison with the Rust uses the rest
+mod ours;
+mod random;
+mod same_bytes;
+
+use std::process::ExitCode;
+
+use random::Random;
+
+fn main() -> ExitCode {
+    let seed = std::env::args()
+        .nth(1)
+        .map_or(1, |s| s.parse().expect("a seed"));
+    let random = &mut Random::new(seed);
+    let good = same_bytes::stored_agree()
+        && same_bytes::agrees(random, 1_000_000)
+        && names::agree(random, 1_500);
+    if good {
+        println!("models: no difference");
+        return ExitCode::SUCCESS;
+    }
+    ExitCode::FAILURE
+}
