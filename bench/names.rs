@@ -44,10 +44,13 @@ fn name(random: &mut Random, length: usize) -> Vec<u8> {
     (0..length).map(|_| b'a' + random.below(26) as u8).collect()
 }
 
-fn changed(name: &[u8], at: usize) -> Vec<u8> {
-    let mut other = name.to_vec();
-    other[at] ^= 1;
-    other
+/// The name, and it again with the byte at a place changed, if any.
+fn pair(name: Vec<u8>, changed: Option<usize>) -> Pair {
+    let mut other = name.clone();
+    if let Some(at) = changed {
+        other[at] ^= 1;
+    }
+    (name, other)
 }
 
 const COMPARISONS: [fn(&[u8], &[u8]) -> bool; 3] = [ours, by_memcmp, by_bytes];
@@ -91,29 +94,23 @@ fn main() -> ExitCode {
     println!("|---|---|---|---|---|---|---|");
     let random = &mut Random::new(1);
     for length in [1, 4, 7, 8, 15, 16, 40, 63, 64, 128] {
-        let names: Vec<_> = (0..200).map(|_| name(random, length)).collect();
-        let pairs = |other: &dyn Fn(&[u8]) -> Vec<u8>| -> Vec<Pair> {
-            names.iter().map(|a| (a.clone(), other(a))).collect()
-        };
-        let length_told = &length.to_string();
-        line(length_told, "equal", &pairs(&|a| a.to_vec()));
-        line(
-            length_told,
-            "first byte differs",
-            &pairs(&|a| changed(a, 0)),
-        );
-        line(
-            length_told,
-            "last byte differs",
-            &pairs(&|a| changed(a, length - 1)),
-        );
+        for (names, changed) in [
+            ("equal", None),
+            ("first byte differs", Some(0)),
+            ("last byte differs", Some(length - 1)),
+        ] {
+            let pairs: Vec<Pair> = (0..200)
+                .map(|_| pair(name(random, length), changed))
+                .collect();
+            line(&length.to_string(), names, &pairs);
+        }
     }
     for (least, most) in [(1, 7), (8, 40)] {
-        let names = (0..2000).map(|_| {
+        let mut any_name = || {
             let length = least + random.below(most - least + 1);
             name(random, length)
-        });
-        let pairs: Vec<Pair> = names.map(|a| (a.clone(), a)).collect();
+        };
+        let pairs: Vec<Pair> = (0..2000).map(|_| pair(any_name(), None)).collect();
         line(&format!("{least} to {most}"), "equal", &pairs);
     }
     ExitCode::SUCCESS

@@ -5,6 +5,10 @@ use mathlib.Core.Path.{_≡_, refl}
 use Prim.Native.Nat.{ℕ}
 use Rattle.event.specs.Span.{same, wordOf}
 
+pub zero-word : wordOf (0x00 ∷ 0x00 ∷ 0x00 ∷ 0x00 ∷ 0x00 ∷ 0x00 ∷ 0x00 ∷ 0x00 ∷ []) ≡ 0
+unfolding wordOf
+zero-word = refl
+
 -- the first byte is the lowest, the eighth the highest
 pub lowest : wordOf (0x01 ∷ 0x00 ∷ 0x00 ∷ 0x00 ∷ 0x00 ∷ 0x00 ∷ 0x00 ∷ 0x00 ∷ []) ≡ 1
 unfolding wordOf
