@@ -55,54 +55,65 @@ fn pair(name: Vec<u8>, changed: Option<usize>) -> Pair {
 
 const COMPARISONS: [fn(&[u8], &[u8]) -> bool; 3] = [ours, by_memcmp, by_bytes];
 
-/// The nanoseconds a pair of each. They take turns, so that noise hits all, and the best turn of each counts.
-fn best(pairs: &[Pair]) -> [f64; 3] {
-    let rounds = 20_000 / pairs.len();
-    let mut best = [f64::MAX; 3];
-    for _ in 0..100 {
-        for (same, best) in COMPARISONS.iter().zip(&mut best) {
-            let begin = Instant::now();
-            for _ in 0..rounds {
-                for (a, b) in pairs {
-                    black_box(same(a, b));
-                }
-            }
-            let taken = begin.elapsed().as_nanos() as f64;
-            *best = best.min(taken / (rounds * pairs.len()) as f64);
+/// A row of the table: what its names are, and the best nanoseconds a pair of each comparison.
+struct Row {
+    length: String,
+    names: &'static str,
+    pairs: Vec<Pair>,
+    best: [f64; 3],
+}
+
+impl Row {
+    fn new(length: String, names: &'static str, pairs: Vec<Pair>) -> Row {
+        for (a, b) in &pairs {
+            assert!(COMPARISONS.iter().all(|same| same(a, b) == (a == b)));
+        }
+        let best = [f64::MAX; 3];
+        Row {
+            length,
+            names,
+            pairs,
+            best,
         }
     }
-    best
+
+    /// The comparisons take turns, so that noise hits all.
+    fn measure(&mut self) {
+        let rounds = 20_000 / self.pairs.len();
+        for _ in 0..10 {
+            for (same, best) in COMPARISONS.iter().zip(&mut self.best) {
+                let begin = Instant::now();
+                for _ in 0..rounds {
+                    for (a, b) in &self.pairs {
+                        black_box(same(a, b));
+                    }
+                }
+                let taken = begin.elapsed().as_nanos() as f64;
+                *best = best.min(taken / (rounds * self.pairs.len()) as f64);
+            }
+        }
+    }
+
+    fn print(&self) {
+        let (length, names, [ours, memcmp, bytes]) = (&self.length, self.names, self.best);
+        println!(
+            "| {length} | {names} | {ours:.1} | {memcmp:.1} | {bytes:.1} | {:.2} | {:.2} |",
+            memcmp / ours,
+            bytes / ours,
+        );
+    }
 }
 
-fn line(length: &str, names: &str, pairs: &[Pair]) {
-    for (a, b) in pairs {
-        assert!(COMPARISONS.iter().all(|same| same(a, b) == (a == b)));
-    }
-    let [ours, memcmp, bytes] = best(pairs);
-    println!(
-        "| {length} | {names} | {ours:.1} | {memcmp:.1} | {bytes:.1} | {:.2} | {:.2} |",
-        memcmp / ours,
-        bytes / ours,
-    );
-}
-
-fn main() -> ExitCode {
-    if !same_bytes::agrees(&mut Random::new(1), 1_000_000) {
-        return ExitCode::FAILURE;
-    }
-    println!("| bytes | names | ours ns | memcmp ns | byte loop ns | by memcmp | by the loop |");
-    println!("|---|---|---|---|---|---|---|");
-    let random = &mut Random::new(1);
+fn rows(random: &mut Random) -> Vec<Row> {
+    let mut rows = vec![];
     for length in [1, 4, 7, 8, 15, 16, 40, 63, 64, 128] {
         for (names, changed) in [
             ("equal", None),
             ("first byte differs", Some(0)),
             ("last byte differs", Some(length - 1)),
         ] {
-            let pairs: Vec<Pair> = (0..200)
-                .map(|_| pair(name(random, length), changed))
-                .collect();
-            line(&length.to_string(), names, &pairs);
+            let pairs = (0..200).map(|_| pair(name(random, length), changed));
+            rows.push(Row::new(length.to_string(), names, pairs.collect()));
         }
     }
     for (least, most) in [(1, 7), (8, 40)] {
@@ -110,8 +121,24 @@ fn main() -> ExitCode {
             let length = least + random.below(most - least + 1);
             name(random, length)
         };
-        let pairs: Vec<Pair> = (0..2000).map(|_| pair(any_name(), None)).collect();
-        line(&format!("{least} to {most}"), "equal", &pairs);
+        let pairs = (0..2000).map(|_| pair(any_name(), None)).collect();
+        rows.push(Row::new(format!("{least} to {most}"), "equal", pairs));
     }
+    rows
+}
+
+fn main() -> ExitCode {
+    let random = &mut Random::new(1);
+    if !same_bytes::agrees(random, 1_000_000) {
+        return ExitCode::FAILURE;
+    }
+    let mut rows = rows(random);
+    // Again and again, so that a slow time of the machine decides no row.
+    for _ in 0..20 {
+        rows.iter_mut().for_each(Row::measure);
+    }
+    println!("| bytes | names | ours ns | memcmp ns | byte loop ns | by memcmp | by the loop |");
+    println!("|---|---|---|---|---|---|---|");
+    rows.iter().for_each(Row::print);
     ExitCode::SUCCESS
 }
