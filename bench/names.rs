@@ -5,13 +5,13 @@ use std::hint::black_box;
 use std::process::ExitCode;
 use std::time::Instant;
 
-#[path = "../models/random.rs"]
-mod random;
+#[path = "../differential/common.rs"]
+mod common;
 #[allow(dead_code)] // the stored pairs
 #[path = "../models/same_bytes.rs"]
 mod same_bytes;
 
-use random::Random;
+use common::Random;
 use same_bytes::same_bytes as ours;
 
 extern "C" {

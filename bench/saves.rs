@@ -3,14 +3,14 @@
 
 use android_abx::{AbxWriter, Event, InternedStr};
 
+#[path = "../differential/common.rs"]
+mod common;
 #[allow(dead_code)] // a benchmark uses some of it
 #[path = "../differential/ours.rs"]
 mod ours;
-#[path = "../models/random.rs"]
-mod random;
 mod table;
 
-use random::Random;
+use common::Random;
 
 const START_TAG: u32 = 2;
 const END_TAG: u32 = 3;

@@ -1,17 +1,13 @@
 //! The documents that are compared: all short ones, and seeded ones with damage. Each is handed to a visitor.
 
+pub use crate::common::{hex, Random};
+
 pub const HEADER: [u8; 4] = [0x41, 0x42, 0x58, 0x00];
 
 /// For calls that are refused whatever the document holds.
 pub const TINY: [&[u8]; 5] = [&HEADER, b"", b"ABX\0\x10", b"ABX\0\x2F", b"AB"];
 
 pub type Visit<'a> = &'a mut dyn FnMut(&[u8]);
-
-/// Bytes from hex digits and spaces.
-pub fn hex(s: &str) -> Vec<u8> {
-    let digits: Vec<u32> = s.chars().filter_map(|c| c.to_digit(16)).collect();
-    digits.chunks(2).map(|d| (d[0] * 16 + d[1]) as u8).collect()
-}
 
 /// `start` with each string of these pieces after it, in every order, `count` at a time.
 fn strings(start: &mut Vec<u8>, pieces: &[Vec<u8>], count: u32, visit: Visit) {
@@ -202,33 +198,6 @@ pub fn events(count: u32, visit: Visit) {
 }
 
 // ---- seeded
-
-/// Xorshift, so that a seed gives the same documents again.
-pub struct Random(pub u64);
-
-impl Random {
-    pub fn new(seed: u64) -> Random {
-        let mut random = Random(seed.wrapping_mul(0x9E37_79B9_7F4A_7C15) | 1);
-        (0..8).for_each(|_| _ = random.below(2));
-        random
-    }
-
-    pub fn below(&mut self, n: usize) -> usize {
-        self.0 ^= self.0 << 13;
-        self.0 ^= self.0 >> 7;
-        self.0 ^= self.0 << 17;
-        (((self.0 >> 32) * n as u64) >> 32) as usize
-    }
-
-    /// Once in n times.
-    pub fn once_in(&mut self, n: usize) -> bool {
-        self.below(n) == 0
-    }
-
-    fn of<'a>(&mut self, from: &[&'a str]) -> &'a str {
-        from[self.below(from.len())]
-    }
-}
 
 /// Strings that break RFC 3629, at the edges of its table.
 const BROKEN: [&str; 12] = [

@@ -3,6 +3,7 @@
 
 mod calls;
 mod chunks;
+mod common;
 mod documents;
 mod lent;
 mod ours;

@@ -1,15 +1,16 @@
 //! Holds the static libraries against models that were written from the papers' words, apart from the code: `models [SEED]`.
 
+#[path = "../differential/common.rs"]
+mod common;
 mod names;
 #[path = "../differential/ours.rs"]
 #[allow(dead_code)] // the comparison with the Rust uses the rest
 mod ours;
-mod random;
 mod same_bytes;
 
 use std::process::ExitCode;
 
-use random::Random;
+use common::Random;
 
 fn main() -> ExitCode {
     let seed = std::env::args()

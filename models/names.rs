@@ -1,8 +1,8 @@
 //! Names that look alike, through the writer and the queries: the writer finds each name's first equal in the pool, and a query the
 //! elements and attributes of a name. The model keeps the names in a list and compares them by Rust's `==`.
 
+use crate::common::Random;
 use crate::ours::{self, Query, QueryKind};
-use crate::random::Random;
 
 const START_TAG: u32 = 2;
 const END_TAG: u32 = 3;

@@ -1,6 +1,6 @@
 //! `event::same_bytes` beside Rust's `==`.
 
-use crate::random::Random;
+use crate::common::{hex, Random};
 
 mod library {
     #[link(name = "same_bytes", kind = "static")]
@@ -12,12 +12,6 @@ mod library {
 pub fn same_bytes(a: &[u8], b: &[u8]) -> bool {
     // SAFETY: both are slices, and are only read.
     unsafe { library::same_bytes(a.as_ptr(), a.len(), b.as_ptr(), b.len()) }
-}
-
-/// The bytes of hex digits; `=` is none.
-fn hex(digits: &str) -> Vec<u8> {
-    let digits: Vec<u32> = digits.chars().filter_map(|c| c.to_digit(16)).collect();
-    digits.chunks(2).map(|d| (d[0] * 16 + d[1]) as u8).collect()
 }
 
 /// The pairs of names of same_bytes.txt.

@@ -1,5 +1,5 @@
 -- Turns of `same_bytes` and `same_rest`: what is left to compare from a place on, by single bytes and by words.
-use mathlib.Core.Bool.{Bool, true, false, _&&_, false≢true}
+use mathlib.Core.Bool.{Bool, true, false, _&&_, and-true, and-false, and-assoc}
 use mathlib.Core.List.{List, [], _∷_, _++_}
 use mathlib.Core.Path.{_≡_, refl, sym, ap, _∙_}
 use Prim.Native.Nat.{ℕ, zero, suc, _+_, _*_, _≤_, _<_}
@@ -28,11 +28,7 @@ unfolding same
 same-lengths [] [] h = absurd (h refl)
 same-lengths [] (y ∷ b) h = refl
 same-lengths (x ∷ a) [] h = refl
-same-lengths (x ∷ a) (y ∷ b) h = rw (same-lengths a b (λ e. h (ap suc e))) (never (eqb x y))
-  where
-    never : (t : Bool) → (t && false) ≡ false
-    never true = refl
-    never false = refl
+same-lengths (x ∷ a) (y ∷ b) h = rw (same-lengths a b (λ e. h (ap suc e))) (and-false (eqb x y))
 
 -- equal bytes: what is left to compare comes after them
 pub same-on : (a b : List ℕ) (i : ℕ) → i < length a → i < length b → getD a i 0 ≡ getD b i 0
@@ -56,10 +52,6 @@ pub same-last : (a b : List ℕ) (i : ℕ) → suc i ≡ length a → suc i ≡ 
 same-last a b i ha hb =
     same-turn a b i (omega arith) (omega arith)
     ∙ rw (same-end a b (i + 1) (omega arith) (omega arith), and-true (eqb (getD a i 0) (getD b i 0)))
-  where
-    and-true : (t : Bool) → (t && true) ≡ t
-    and-true true = refl
-    and-true false = refl
 
 -- ---- words
 
@@ -102,11 +94,7 @@ unfolding same
 same-parts [] [] x y l = refl
 same-parts [] (c ∷ v) x y l = absurd (omega arith)
 same-parts (b ∷ w) [] x y l = absurd (omega arith)
-same-parts (b ∷ w) (c ∷ v) x y l = rw (same-parts w v x y (omega arith)) (both-and (eqb b c) (same w v) (same x y))
-  where
-    both-and : (t u r : Bool) → (t && (u && r)) ≡ ((t && u) && r)
-    both-and true u r = refl
-    both-and false u r = refl
+same-parts (b ∷ w) (c ∷ v) x y l = rw (same-parts w v x y (omega arith)) (sym (and-assoc (eqb b c) (same w v) (same x y)))
 
 module _ (s : List ℕ) (i : ℕ) (h : i + 8 ≤ length s) where
   eight : length (take 8 (drop i s)) ≡ 8

@@ -1,9 +1,8 @@
--- Words and equal bytes, computed: no law sees which byte of a word is its lowest.
-use mathlib.Core.Bool.{true, false}
+-- Words, computed: no law sees which byte of a word is its lowest.
 use mathlib.Core.List.{List, [], _∷_}
 use mathlib.Core.Path.{_≡_, refl}
 use Prim.Native.Nat.{ℕ}
-use Rattle.event.specs.Span.{same, wordOf}
+use Rattle.event.specs.Span.{wordOf}
 
 pub zero-word : wordOf (0x00 ∷ 0x00 ∷ 0x00 ∷ 0x00 ∷ 0x00 ∷ 0x00 ∷ 0x00 ∷ 0x00 ∷ []) ≡ 0
 unfolding wordOf
@@ -25,12 +24,3 @@ greatest = refl
 pub mixed : wordOf (0x0B ∷ 0x30 ∷ 0x55 ∷ 0x7A ∷ 0x9F ∷ 0xC4 ∷ 0xE9 ∷ 0x0E ∷ []) ≡ 1_074_606_175_335_821_323
 unfolding wordOf
 mixed = refl
-
--- a name is not the same as its beginning, whatever follows
-pub longer : same (0x00 ∷ []) (0x00 ∷ 0x00 ∷ []) ≡ false
-unfolding same
-longer = refl
-
-pub none : same [] [] ≡ true
-unfolding same
-none = refl

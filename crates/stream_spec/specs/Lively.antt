@@ -1,6 +1,6 @@
 -- Once no more will come: with room for the names, the events that are left come out one by one, and then End or the refusal at
 -- which the grammar stops.
-use mathlib.Core.Bool.{Bool, true, false, _&&_, cond, true≢false}
+use mathlib.Core.Bool.{Bool, true, false, _&&_, cond, true≢false, and-false}
 use mathlib.Core.Option.{some}
 use mathlib.Core.List.{List, [], _∷_, _++_, append-assoc, append-nil}
 use mathlib.Core.Path.{_≡_, refl, sym, ap, _∙_}
@@ -34,10 +34,6 @@ lengths-bytes : (s : List ℕ) (ts : List Span) → AllIn (length s) ts → leng
 unfolding lengths
 lengths-bytes s [] a = refl
 lengths-bytes s (t ∷ ts) a = omega (arith, lengths-bytes s ts (a .1), bytesAt-length s t (a .0))
-
-and-false : (a : Bool) → (a && false) ≡ false
-and-false true = refl
-and-false false = refl
 
 -- what a next leaves where this is left to read, and these are the names of the whole document
 abbrev Says : Stream → Lent → List ℕ → Pool → Reading → Left → Type 0
