@@ -1,9 +1,10 @@
 -- A call's own checks, and what it leaves when they are passed or not.
-use mathlib.Core.Bool.{Bool, true, false}
+use mathlib.Core.Bool.{Bool, true, false, not}
 use mathlib.Core.Option.{none, some}
 use mathlib.Core.List.{List}
-use mathlib.Core.Path.{_≡_, refl}
+use mathlib.Core.Path.{_≡_, refl, sym, ap, _∙_}
 use Prim.Native.Nat.{ℕ, zero, suc, _*_, _/_, _%_, _≤_, _<_}
+use native.Mathlib.Omega.{arith}
 use borrow.Author.Tests.{ltb-false, eqb-true}
 use lib.Dec.{ltb, eqb}
 use lib.ListN.{length, take, replicate, length-replicate}
@@ -11,14 +12,16 @@ use Rattle.wire.specs.Refusal.{badSize, badState, notRows}
 use Rattle.wire.specs.Limits.{maxStore, maxTable}
 use Rattle.event.specs.Row.{Row}
 use Rattle.event.specs.Words.{listForms, eventForms}
-use Rattle.writer_spec.specs.Writer.{Writer, Lent, refused, Left, sizesBad, stateBad, poolAt, meetsBad, rowsRefusal, unless, refusal, append, write, rowsIn}
-use Rattle.grammar.specs.Choice.{neither}
+use Rattle.writer_spec.specs.Writer.{Writer, Lent, refused, Left, Refusal, _before_, refuseIf, sizesBad, stateBad, poolAt, meetsBad, rowsRefusal, unless, refusal, append, write, rowsIn}
+use Rattle.grammar.specs.Choice.{neither, byTest}
 use Rattle.writer_spec.specs.Laws.{both-forms, pool-count}
 use Rattle.writer_spec.specs.Unrefused.{fits}
 use Rattle.writer.specs.Answers.{lentOf, formsBy}
 use Rattle.writer.specs.Notes.{Fresh}
-use Rattle.writer.specs.Passes.{most-notes, Enough, Slots, MeasureSays, Ready}
+use Rattle.writer.specs.Passes.{most-notes, callFault, Slots, MeasureSays, Tried, Ready}
 use Rattle.writer.specs.declared.Measured.the-variants as Measured
+use Rattle.writer.specs.declared.Outcome.{Outcome}
+use Rattle.writer.specs.declared.Outcome.the-variants as Outcome
 
 -- ---- what passed checks say
 
@@ -52,20 +55,56 @@ module _ (first second rows : List ℕ) where
 abbrev pub stopped : ℕ → ℕ → Lent → Left
 stopped number detail l = record { reply = refused number detail; lent = l }
 
-module _ (formed : Bool) (w : Writer) (l : Lent) (rs : List Row) where
-  pub stops-sizes : sizesBad l ≡ true → stopped badSize 0 l ≡ write formed w l rs
-  unfolding write refusal unless
-  stops-sizes h = rw h
+-- a test before others that none of them passed
+if-false : (b : Bool) (number : ℕ) (r : Refusal) → refuseIf b number before r ≡ none → (b ≡ false) × (r ≡ none)
+if-false true number r h = absurd (let z : _≡_ {A = ℕ} 0 1 = cc h in omega arith)
+if-false false number r h = (refl, h)
 
-  module _ (s : sizesBad l ≡ false) where
-    pub stops-state : stateBad w l ≡ true → stopped badState 0 l ≡ write formed w l rs
-    unfolding write refusal unless
-    stops-state h = rw (s, h)
+before-assoc : (a b d : Refusal) → (a before b) before d ≡ a before (b before d)
+before-assoc (some x) b d = refl
+before-assoc none b d = refl
 
-    module _ (g : stateBad w l ≡ false) where
-      pub stops-forms : formed ≡ false → stopped notRows 0 l ≡ write formed w l rs
-      unfolding write refusal unless
-      stops-forms h = rw (s, g, h)
+not-false : (b : Bool) → refuseIf (not b) notRows ≡ none → b ≡ true
+not-false true h = refl
+not-false false h = absurd (let z : _≡_ {A = ℕ} 0 1 = cc h in omega arith)
+
+module _ (formed : Bool) (w : Writer) (l : Lent) where
+  pub fault-sizes : sizesBad l ≡ true → some (badSize, 0) ≡ callFault formed w l
+  unfolding callFault
+  fault-sizes h = rw h
+
+  pub fault-state : sizesBad l ≡ false → stateBad w l ≡ true → some (badState, 0) ≡ callFault formed w l
+  unfolding callFault
+  fault-state s h = rw (s, h)
+
+  pub fault-forms : sizesBad l ≡ false → stateBad w l ≡ false → formed ≡ false → some (notRows, 0) ≡ callFault formed w l
+  unfolding callFault
+  fault-forms s g h = rw (s, g, h)
+
+  pub no-fault : sizesBad l ≡ false → stateBad w l ≡ false → formed ≡ true → none ≡ callFault formed w l
+  unfolding callFault
+  no-fault s g h = rw (s, g, h)
+
+  pub fault-passed : callFault formed w l ≡ none → (formed ≡ true) × (sizesBad l ≡ false) × (stateBad w l ≡ false)
+  unfolding callFault
+  fault-passed h =
+      let one = if-false (sizesBad l) badSize _ h in
+      let two = if-false (stateBad w l) badState _ (one .1) in
+      (not-false formed (two .1), one .0, two .0)
+
+  module _ (rs : List Row) where
+    abbrev rest : Refusal
+    rest = rowsRefusal l (meetsBad (l .output) (w .names) (l .table)) (w .written) (poolAt (l .output) (w .names) (l .table)) rs
+
+    in-order : callFault formed w l before rest ≡ refusal formed w l rs
+    unfolding callFault refusal
+    in-order =
+        before-assoc (refuseIf (sizesBad l) badSize) _ rest
+        ∙ ap (λ (r : Refusal). refuseIf (sizesBad l) badSize before r) (before-assoc (refuseIf (stateBad w l) badState) (refuseIf (not formed) notRows) rest)
+
+    pub stops-call : (number detail : ℕ) → callFault formed w l ≡ some (number, detail) → stopped number detail l ≡ write formed w l rs
+    unfolding write unless
+    stops-call number detail h = ap (λ (r : Refusal). unless r l (append w l rs)) (sym (ap (λ (r : Refusal). r before rest) h) ∙ in-order)
 
 module _ (w : Writer) (l : Lent) (rs : List Row) (s : sizesBad l ≡ false) (g : stateBad w l ≡ false) where
   pub stops-rows : (number detail : ℕ)
@@ -97,5 +136,14 @@ fresh (suc n) (suc slot) = fresh n slot
 pub slots-of : (n : ℕ) → 0 < n → n < 65536 → Slots (length {A = ℕ} (replicate n 0))
 slots-of n a b = rw length-replicate (record { some-slots = a; few-slots = b })
 
-pub enough-of : (words n : ℕ) → (n < most-notes → 5 * (words / 8) ≤ n) → Enough words (length {A = ℕ} (replicate n 0))
-enough-of words n h = rw length-replicate (record { enough = h })
+-- ---- tries
+
+module _ (formed : Bool) (w : Writer) (l : Lent) (rs : List Row) (output table : List ℕ) where
+  -- room for how many notes counts only in that it is not for all
+  pub tried-with : (size size′ : ℕ) (r : Outcome) → size′ < most-notes → Tried formed w l rs output table size r → Tried formed w l rs output table size′ r
+  tried-with size size′ (Outcome.Left x) h t = t
+  tried-with size size′ Outcome.Crowded h t = (t .0, h)
+
+  -- with room for all notes
+  pub never-crowded : (n : ℕ) → most-notes ≤ n → Tried formed w l rs output table (length {A = ℕ} (replicate n 0)) Outcome.Crowded → ⊥
+  never-crowded n h t = omega (arith, t .1, length-replicate {A = ℕ} n 0)

@@ -2,6 +2,7 @@ mod Spans
 mod Searches
 mod Links
 mod Values
+mod Indexing
 mod Keeps
 mod Pools
 mod Noting

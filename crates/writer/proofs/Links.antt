@@ -1,7 +1,7 @@
 -- Notes by their slots: a look goes from a slot's last note to the ones before it, and a new note goes in front.
 use mathlib.Core.Bool.{true, false, false≢true}
 use mathlib.Core.List.{List, [], _∷_, _++_}
-use mathlib.Core.Path.{_≡_, sym, ap, _∙_}
+use mathlib.Core.Path.{_≡_, refl, sym, ap, _∙_}
 use Prim.Native.Nat.{ℕ, _+_, _*_, _-_, _/_, _%_, _≤_, _<_}
 use native.Mathlib.Nat.{mod-lt, div-lt-iff-lt-mul, mul-lt-mul-of-pos-right, mul-comm, add-zero}
 use native.Mathlib.Omega.{arith}
@@ -31,9 +31,7 @@ slot-by-below slots x h = scaled (x % 4294967296 * 2654435761) slots h
 
 pub slot-below : (slots : ℕ) (n : List ℕ) → 0 < slots → slotOf slots n < slots
 unfolding slotOf
-slot-below slots n h =
-    cond-by (λ (x : ℕ). x < slots) (eqb (length n) 0) 0 _ (λ _. h)
-    (λ _. cond-by (λ (x : ℕ). x < slots) (ltb (length n) 4) _ _ (λ _. slot-by-below slots _ h) (λ _. slot-by-below slots _ h))
+slot-below slots n h = slot-by-below slots _ h
 
 -- ---- a look
 

@@ -27,7 +27,7 @@ use Rattle.writer.specs.Notes.{slotOf, noteName, noteIndex, count, Unnot
 use Rattle.writer.specs.declared.Look.the-variants as Look
 use Rattle.writer.specs.declared.NameSize.{NameSize}
 use Rattle.writer.specs.declared.NameSize.the-variants as NameSize
-use Rattle.writer.specs.Passes.{nameRefusal, capped, most-notes, Roomy, Grown, bad, found, Known, NameTakes, NameSays, RowNamed, RowNameSays, RowTakes}
+use Rattle.writer.specs.Passes.{nameRefusal, capped, most-notes, Grown, bad, found, Known, NameTakes, NameSays, RowNamed, RowNameSays, RowTakes}
 use Rattle.writer.proofs.Pools.{keep-there, keep-new, keep-full, find-below}
 use Rattle.writer.proofs.Links.{count-more, name-new}
 use Rattle.writer.proofs.Noting.{few, still, noted-kept, noted-new}
@@ -149,7 +149,7 @@ module _ (first second output table : List ℕ) (kept : ℕ) (pool : Pool) (w no
   name = span first second (getD w 1 0) (getD w 2 0) (getD w 3 0)
 
   module _ (u : Unnoted first second (take used notes) name) (its : slot ≡ slotOf (length heads) name) (h : slot < length heads)
-      (p : nameRefusal (bad first second output table kept) name ≡ none) (roomy : Roomy used (length notes)) (small : length pool ≤ most) where
+      (p : nameRefusal (bad first second output table kept) name ≡ none) (in-use : used ≤ length notes) (small : length pool ≤ most) where
     abbrev words : ℕ → List ℕ
     words index = getD w 1 0 ∷ getD w 2 0 ∷ getD w 3 0 ∷ index ∷ getD heads slot 0 ∷ []
 
@@ -160,17 +160,16 @@ module _ (first second output table : List ℕ) (kept : ℕ) (pool : Pool) (w no
     heads-with = set heads slot (count first second (take used notes) + 1)
 
     longer : (index : ℕ) → length (notes-with index) ≡ used + 5
-    longer index = length-append (take used notes) (words index) ∙ (let e = length-take-le used notes (roomy .in-use) in omega arith)
+    longer index = length-append (take used notes) (words index) ∙ (let e = length-take-le used notes in-use in omega arith)
 
-    -- there is room for the note: there are no more notes than names
-    room-for : (index : ℕ) (pool′ : Pool) → length pool′ ≤ most → Known first second output table kept pool′ (notes-with index) heads-with → used + 5 ≤ length notes
+    -- all notes have room for this one: there are no more notes than names
+    room-for : (index : ℕ) (pool′ : Pool) → length pool′ ≤ most → Known first second output table kept pool′ (notes-with index) heads-with → used + 5 ≤ most-notes
     unfolding most
     room-for index pool′ b k =
         let f = few first second (bad first second output table kept) (found first second output table kept) pool′ (notes-with index) heads-with k in
         let whole = k .linked .whole in
         let l = longer index in
-        byTest (ltb (length notes) most-notes) (λ c. roomy .room (ltb-true (length notes) most-notes c))
-        (λ c. omega (arith, ltb-false (length notes) most-notes c))
+        omega arith
 
     known-kept : (index : ℕ) → find pool name ≡ some index → NameTakes first second output table kept pool name 2 (length pool) (take used notes) (notes-with index) heads-with
     known-kept index f = takes-kept first second output table kept pool (getD w 1 0) (getD w 2 0) (getD w 3 0) index (getD heads slot 0) slot (take used notes) heads t u its h refl p f
@@ -179,10 +178,10 @@ module _ (first second output table : List ℕ) (kept : ℕ) (pool : Pool) (w no
         → NameTakes first second output table kept pool name (4 + length name) (length pool + 1) (take used notes) (notes-with (length pool)) heads-with
     known-new f m = takes-new first second output table kept pool (getD w 1 0) (getD w 2 0) (getD w 3 0) (length pool) (getD heads slot 0) slot (take used notes) heads t u its h refl p f refl m
 
-    pub kept-room : (index : ℕ) → find pool name ≡ some index → used + 5 ≤ length notes
+    pub kept-room : (index : ℕ) → find pool name ≡ some index → used + 5 ≤ most-notes
     kept-room index f = room-for index pool small (rw (keep-there pool name index f) at (known-kept index f .more .knows))
 
-    pub new-room : find pool name ≡ none → length pool < most → used + 5 ≤ length notes
+    pub new-room : find pool name ≡ none → length pool < most → used + 5 ≤ most-notes
     new-room f m =
         room-for (length pool) (pool ++ (name ∷ [])) (omega (arith, length-append pool (name ∷ []))) (rw (keep-new pool name f m) at (known-new f m .more .knows))
 
@@ -193,13 +192,12 @@ module _ (first second output table : List ℕ) (kept : ℕ) (pool : Pool) (w no
       notes-are = ap (take (used + 5)) stored ∙ take-sets notes (words index) used room
 
       heads-are : heads′ ≡ heads-with
-      heads-are = headed ∙ ap (λ (m : ℕ). set heads slot (m + 1)) (sym (counted first second notes used (roomy .in-use)))
+      heads-are = headed ∙ ap (λ (m : ℕ). set heads slot (m + 1)) (sym (counted first second notes used in-use))
 
       grown : Grown used (used + 5) (length notes′)
       grown =
           record {
             grows = omega arith;
-            little = omega arith;
             fits = rw stored (simp length-sets room);
           }
 
@@ -291,7 +289,7 @@ used-few first second output table kept pool notes heads used h b t =
 -- ---- the arms of the code, by the name that it has at hand
 
 module _ (first second output table : List ℕ) (kept : ℕ) (w n notes heads : List ℕ) (used slot : ℕ)
-    (e : n ≡ span first second (getD w 1 0) (getD w 2 0) (getD w 3 0)) (roomy : Roomy used (length notes)) (its : slot ≡ slotOf (length heads) n)
+    (e : n ≡ span first second (getD w 1 0) (getD w 2 0) (getD w 3 0)) (in-use : used ≤ length notes) (its : slot ≡ slotOf (length heads) n)
     (h : slot < length heads) (u : Unnoted first second (take used notes) n) (pool : Pool) (names : ℕ) (counts : length pool ≡ names) (small : length pool ≤ most)
     (t : Known first second output table kept pool (take used notes) heads) where
   abbrev Answer : Option ℕ → Type 0
@@ -304,37 +302,37 @@ module _ (first second output table : List ℕ) (kept : ℕ) (w n notes heads : 
   unfolding most
   index-small i q = omega (arith, find-below pool n i (here (some i) q .1))
 
-  pub room-kept : (i : ℕ) → Answer (some i) → used + 5 ≤ length notes
+  pub room-kept : (i : ℕ) → Answer (some i) → used + 5 ≤ most-notes
   room-kept i q =
-      kept-room first second output table kept pool w notes heads used slot t (rw e at u) (rw e at its) h (rw e at (here (some i) q .0)) roomy small i (rw e at (here (some i) q .1))
+      kept-room first second output table kept pool w notes heads used slot t (rw e at u) (rw e at its) h (rw e at (here (some i) q .0)) in-use small i (rw e at (here (some i) q .1))
 
-  pub room-new : Answer none → names < internedNew → used + 5 ≤ length notes
+  pub room-new : Answer none → names < internedNew → used + 5 ≤ most-notes
   unfolding most
   room-new q m =
-      new-room first second output table kept pool w notes heads used slot t (rw e at u) (rw e at its) h (rw e at (here none q .0)) roomy small (rw e at (here none q .1)) (omega arith)
+      new-room first second output table kept pool w notes heads used slot t (rw e at u) (rw e at its) h (rw e at (here none q .0)) in-use small (rw e at (here none q .1)) (omega arith)
 
   module _ (index : ℕ) (notes′ heads′ : List ℕ) (stored : notes′ ≡ sets notes used (getD w 1 0 ∷ getD w 2 0 ∷ getD w 3 0 ∷ index ∷ getD heads slot 0 ∷ []))
-      (headed : heads′ ≡ set heads slot (used / 5 + 1)) where
+      (headed : heads′ ≡ set heads slot (used / 5 + 1)) (room : used + 5 ≤ length notes) where
     pub says-kept : Answer (some index)
         → Grown used (used + 5) (length notes′) × NameTakes first second output table kept pool n 2 names (take used notes) (take (used + 5) notes′) heads′
     says-kept q =
         rw (e, ← counts)
-        (kept-says first second output table kept pool w notes heads used slot t (rw e at u) (rw e at its) h (rw e at (here (some index) q .0)) roomy small index notes′ heads′
-        (room-kept index q) stored headed (rw e at (here (some index) q .1)))
+        (kept-says first second output table kept pool w notes heads used slot t (rw e at u) (rw e at its) h (rw e at (here (some index) q .0)) in-use small index notes′ heads′
+        room stored headed (rw e at (here (some index) q .1)))
 
     pub says-new : Answer none → names < internedNew → index ≡ names
         → Grown used (used + 5) (length notes′) × NameTakes first second output table kept pool n (4 + length n) (names + 1) (take used notes) (take (used + 5) notes′) heads′
     unfolding most
     says-new q m i =
         rw (e, ← counts)
-        (new-says first second output table kept pool w notes heads used slot t (rw e at u) (rw e at its) h (rw e at (here none q .0)) roomy small index notes′ heads′
-        (room-new q m) stored headed (rw e at (here none q .1)) (omega arith) (i ∙ sym counts))
+        (new-says first second output table kept pool w notes heads used slot t (rw e at u) (rw e at its) h (rw e at (here none q .0)) in-use small index notes′ heads′
+        room stored headed (rw e at (here none q .1)) (omega arith) (i ∙ sym counts))
 
   pub says-full : Answer none → internedNew ≤ names
       → Grown used used (length notes) × NameTakes first second output table kept pool n (4 + length n) names (take used notes) (take used notes) heads
   unfolding most
   says-full q m = (
-    record { grows = omega arith; little = omega arith; fits = roomy .in-use },
+    record { grows = omega arith; fits = in-use },
     rw (← counts) (takes-full first second output table kept pool n (take used notes) heads t (here none q .0) (here none q .1) (omega arith)),
   )
 
@@ -350,12 +348,13 @@ module _ (first second output table : List ℕ) (kept : ℕ) (pool : Pool) (r : 
       → RowNameSays first second output table kept pool r used notes notes′ heads′ s
   says-row notes′ heads′ (NameSize.Takes size names′ used′) t = (t .0, named-row first second output table kept pool r n size names′ _ _ heads′ h e (t .1))
   says-row notes′ heads′ (NameSize.Refused x) t = rw (h, e) t
+  says-row notes′ heads′ NameSize.Crowded t = t
 
   pub says-noted : (heads : List ℕ) (i names : ℕ) → length pool ≡ names → used ≤ length notes → Known first second output table kept pool (take used notes) heads
       → LookSays first second (take used notes) n (Look.At i)
       → Grown used used (length notes) × RowNamed first second output table kept pool r 2 names (take used notes) (take used notes) heads
   says-noted heads i names c b t l = (
-    record { grows = omega arith; little = omega arith; fits = b },
+    record { grows = omega arith; fits = b },
     rw (← c) (named-row first second output table kept pool r n 2 (length pool) _ _ heads h e
         (takes-noted first second output table kept pool n (take used notes) heads t (l .0) (l .1) (l .2))),
   )
@@ -364,7 +363,7 @@ pub says-bare : (first second output table : List ℕ) (kept : ℕ) (pool : Pool
     → length pool ≡ names → used ≤ length notes → Known first second output table kept pool (take used notes) heads
     → Grown used used (length notes) × RowNamed first second output table kept pool r 0 names (take used notes) (take used notes) heads
 says-bare first second output table kept pool r notes heads used names h c b t =
-    (record { grows = omega arith; little = omega arith; fits = b }, rw (← c) (bare-row first second output table kept pool r (take used notes) heads h t))
+    (record { grows = omega arith; fits = b }, rw (← c) (bare-row first second output table kept pool r (take used notes) heads h t))
 
 -- ---- no size comes near the end of a word
 

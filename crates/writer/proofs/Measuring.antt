@@ -19,7 +19,7 @@ use Rattle.writer_spec.specs.Wrote.{keepRows-append}
 use Rattle.writer_spec.specs.Held.{rows-bounded}
 use Rattle.writer.specs.Answers.{lentOf}
 use Rattle.writer.specs.Notes.{Fresh, Unnoted}
-use Rattle.writer.specs.Passes.{roomOf, endsAt, Roomy, Enough, Grown, Settled, AllSettled, bad, found, Known, Kept, RowTakes, MeasureSays}
+use Rattle.writer.specs.Passes.{roomOf, endsAt, Grown, Settled, AllSettled, bad, found, Known, Kept, RowTakes, MeasureSays}
 use Rattle.writer.specs.declared.Measured.the-variants as Measured
 use Rattle.writer.specs.declared.Tally.{Tally}
 use Rattle.writer.proofs.Pools.{row-full}
@@ -70,7 +70,6 @@ module _ (first second output table rows : List ℕ) (kept written : ℕ) where
     pub names-are : length (keepRows pool₀ done) ≡ t .names
     pub knows : Known first second output table kept (keepRows pool₀ done) (take (t .used) notes) heads
     pub settled : AllSettled first second (keepRows pool₀ done) (take (t .used) notes) done
-    pub used-small : 8 * t .used ≤ 5 * row
     pub used-fits : t .used ≤ length notes
     pub at-small : t .at ≤ maxStore + 1
 
@@ -87,7 +86,6 @@ module _ (first second output table rows : List ℕ) (kept written : ℕ) where
         names-are = pool-count output kept table;
         knows = noted-none first second names-bad pool₀ heads f;
         settled = tt;
-        used-small = omega arith;
         used-fits = omega arith;
         at-small = omega arith;
       }
@@ -100,13 +98,6 @@ module _ (first second output table rows : List ℕ) (kept written : ℕ) where
     pub kept-here : kept ≤ internedNew → Kept first second output table kept (t .names) (take (t .used) notes) heads
     unfolding most
     kept-here h = (pool, m .names-are, rows-bounded (m .done) pool₀ (omega (arith, pool-count output kept table)), m .knows)
-
-    pub roomy-here : row < length rows → length rows % 8 ≡ 0 → Enough (length rows) (length notes) → Roomy (t .used) (length notes)
-    roomy-here h w e =
-        record {
-          in-use = m .used-fits;
-          room = λ b. omega (arith, e .enough b, m .used-small, m .aligned);
-        }
 
     module _ (h : row < length rows) (w : length rows % 8 ≡ 0) where
       abbrev pub this : Row
@@ -162,7 +153,6 @@ module _ (first second output table rows : List ℕ) (kept written : ℕ) where
                   rw pool-next
                   (all-append first second pool′ (take (u .used) notes′) (m .done) this
                   (all-more first second pool this (take (t .used) notes) (take (u .used) notes′) (k .more .still) (m .done) (m .settled)) (k .settled));
-              used-small = omega (arith, g .little, m .used-small);
               used-fits = g .fits;
               at-small = rw (k .at-is) (omega (arith, capped-small (length output) place));
             }

@@ -11,6 +11,7 @@ use lib.ListN.{length}
 use Rattle.event.specs.Span.{same}
 use Rattle.event.specs.Laws.{same-refl, same-eq}
 use Rattle.event.specs.Row.{Row, hasName}
+use Rattle.names.specs.Laws.{same-not}
 use Rattle.grammar.specs.Grammar.{most}
 use Rattle.grammar.specs.Document.{Pool}
 use Rattle.grammar.specs.Choice.{byTest}
@@ -33,9 +34,6 @@ map-none none e = refl
 map-none (some j) e = absurd (some-none (suc j) e)
 
 -- ---- a name in a pool and in a longer one
-
-pub same-not : (a b : List ℕ) → (a ≡ b → ⊥) → same a b ≡ false
-same-not a b h = byTest (same a b) (λ t. absurd (h (same-eq a b t))) (λ t. t)
 
 pub find-there : (pool more : Pool) (n : List ℕ) (i : ℕ) → find pool n ≡ some i → find (pool ++ more) n ≡ some i
 unfolding find

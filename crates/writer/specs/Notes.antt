@@ -1,13 +1,12 @@
 -- The notes that a call keeps of the names it has met: five words each, linked by slots.
-use mathlib.Core.Bool.{Bool, false, cond}
+use mathlib.Core.Bool.{Bool, false}
 use mathlib.Core.Option.{none, some}
 use mathlib.Core.List.{List}
 use mathlib.Core.Path.{_≡_}
 use Prim.Native.Nat.{ℕ, _+_, _*_, _-_, _/_, _%_, _≤_, _<_}
-use lib.Dec.{ltb, eqb}
 use lib.ListN.{length, getD}
-use Rattle.wire.specs.Header.{u32Of}
 use Rattle.event.specs.Span.{span}
+use Rattle.names.specs.Hash.{hashOf}
 use Rattle.grammar.specs.Document.{Pool}
 use Rattle.writer_spec.specs.Encode.{find}
 use Rattle.writer_spec.specs.Faults.{stringFault}
@@ -18,18 +17,9 @@ use Rattle.writer.specs.declared.Look.the-variants as Look
 unfoldable pub slotBy : ℕ → ℕ → ℕ
 slotBy slots mixed = mixed % 4294967296 * 2654435761 % 4294967296 * slots / 4294967296
 
-abbrev front : List ℕ → ℕ
-front n = getD n 0 0 * 256 + getD n (length n / 2) 0 + length n * 65536
-
-abbrev tail : List ℕ → ℕ
-tail n = u32Of (getD n (length n - 4) 0) (getD n (length n - 3) 0) (getD n (length n - 2) 0) (getD n (length n - 1) 0)
-
 -- a name's slot: equal names have the same, and nothing else matters
 unfoldable pub slotOf : ℕ → List ℕ → ℕ
-slotOf slots n =
-    cond (eqb (length n) 0) 0
-    (cond (ltb (length n) 4) (slotBy slots (front n))
-    (slotBy slots (tail n + front n * 40503)))
+slotOf slots n = slotBy slots (hashOf n)
 
 -- ---- a note's words: the name's span, its index in the pool, and the number of the note before it in its slot
 

@@ -6,15 +6,15 @@ use mathlib.Core.Path.{_≡_}
 use Prim.Native.Nat.{ℕ, _+_, _*_, _/_, _≤_, _<_}
 use lib.Dec.{ltb, eqb}
 use lib.ListN.{length, getD, take}
-use Rattle.wire.specs.Refusal.{badState, poolFull, outputFull}
+use Rattle.wire.specs.Refusal.{badSize, badState, notRows, poolFull, outputFull}
 use Rattle.wire.specs.Token.{attribute, startTag, text, null, stringInterned}
 use Rattle.event.specs.Row.{Row, hasName}
 use Rattle.grammar.specs.Grammar.{most}
 use Rattle.grammar.specs.Document.{Pool}
 use Rattle.writer_spec.specs.Encode.{find, nameBy, nameBytes, keep, valueBytes, tokenType, rowBytes, keepRow, rowsBytes, keepRows}
 use Rattle.writer_spec.specs.Faults.{stringFault}
-use Rattle.writer_spec.specs.Writer.{Refusal, _before_, refuseIf, poolAt, meetsBad, rowRefusal, rowsRefusal}
-use Rattle.writer.specs.Answers.{lentOf, knownOf}
+use Rattle.writer_spec.specs.Writer.{Writer, Lent, Refusal, sizesBad, stateBad, _before_, refuseIf, poolAt, meetsBad, rowRefusal, rowsRefusal, write}
+use Rattle.writer.specs.Answers.{lentOf, leftOf, knownOf}
 use Rattle.writer.specs.Notes.{Noted, Unnoted}
 use Rattle.writer.specs.declared.Known as Code
 use Rattle.writer.specs.declared.Tally.{Tally}
@@ -24,6 +24,8 @@ use Rattle.writer.specs.declared.RowSize.{RowSize}
 use Rattle.writer.specs.declared.RowSize.the-variants as RowSize
 use Rattle.writer.specs.declared.Measured.{Measured}
 use Rattle.writer.specs.declared.Measured.the-variants as Measured
+use Rattle.writer.specs.declared.Outcome.{Outcome}
+use Rattle.writer.specs.declared.Outcome.the-variants as Outcome
 
 -- ---- rooms and places
 
@@ -43,20 +45,10 @@ endsAt rows at = cond (ltb at (length rows)) (not (eqb (getD rows at 0) attribut
 abbrev pub most-notes : ℕ
 most-notes = 327_675
 
--- so many words of notes are in use; where there is no room for all notes, there is room for one more
-pub record Roomy (used size : ℕ) : Type 0 where
-  pub in-use : used ≤ size
-  pub room : size < most-notes → used + 5 ≤ size
-
--- at most a note more
+-- no fewer words of notes
 pub record Grown (used used′ size : ℕ) : Type 0 where
   pub grows : used ≤ used′
-  pub little : used′ ≤ used + 5
   pub fits : used′ ≤ size
-
--- where there is no room for all notes, there is room for one of each row
-pub record Enough (words size : ℕ) : Type 0 where
-  pub enough : size < most-notes → 5 * (words / 8) ≤ size
 
 -- a number of slots
 pub record Slots (size : ℕ) : Type 0 where
@@ -66,6 +58,10 @@ pub record Slots (size : ℕ) : Type 0 where
 -- what is wrong with a name, and then with its search
 abbrev pub nameRefusal : (List ℕ → Bool) → List ℕ → Refusal
 nameRefusal bad n = stringFault n before refuseIf (bad n) badState
+
+-- what refuses a call before its rows are looked at: 17, 19, 16
+unfoldable pub callFault : Bool → Writer → Lent → Refusal
+callFault formed w l = refuseIf (sizesBad l) badSize before refuseIf (stateBad w l) badState before refuseIf (not formed) notRows
 
 -- ---- measuring
 
@@ -110,6 +106,7 @@ module _ (first second output table : List ℕ) (kept : ℕ) where
   NameSays pool n used notes notes′ heads′ (NameSize.Takes size names′ used′) =
       Grown used used′ (length notes′) × NameTakes pool n size names′ (take used notes) (take used′ notes′) heads′
   NameSays pool n used notes notes′ heads′ (NameSize.Refused r) = nameRefusal bad n ≡ some (r .number, r .detail)
+  NameSays pool n used notes notes′ heads′ NameSize.Crowded = length notes′ < most-notes
 
   abbrev pub NameMeasured : ℕ → List ℕ → ℕ → List ℕ → List ℕ → List ℕ → List ℕ → NameSize → Type 0
   NameMeasured names n used notes heads notes′ heads′ s =
@@ -128,6 +125,7 @@ module _ (first second output table : List ℕ) (kept : ℕ) where
       Grown used used′ (length notes′) × RowNamed pool r size names′ (take used notes) (take used′ notes′) heads′
   RowNameSays pool r used notes notes′ heads′ (NameSize.Refused s) =
       cond (hasName (r .kind)) (nameRefusal bad (r .name)) none ≡ some (s .number, s .detail)
+  RowNameSays pool r used notes notes′ heads′ NameSize.Crowded = length notes′ < most-notes
 
   abbrev pub RowNameMeasured : ℕ → Row → ℕ → List ℕ → List ℕ → List ℕ → List ℕ → NameSize → Type 0
   RowNameMeasured names r used notes heads notes′ heads′ s =
@@ -145,6 +143,7 @@ module _ (first second output table : List ℕ) (kept : ℕ) where
   RowSays pool r t notes notes′ heads′ (RowSize.Takes u) =
       Grown (t .used) (u .used) (length notes′) × RowTakes pool r (t .at) (u .at) (u .names) (take (t .used) notes) (take (u .used) notes′) heads′
   RowSays pool r t notes notes′ heads′ (RowSize.Refused s) = rowRefusal bad r ≡ some (s .number, s .detail)
+  RowSays pool r t notes notes′ heads′ RowSize.Crowded = length notes′ < most-notes
 
   abbrev pub RowMeasured : Row → Tally → List ℕ → List ℕ → List ℕ → List ℕ → RowSize → Type 0
   RowMeasured r t notes heads notes′ heads′ s =
@@ -156,6 +155,14 @@ module _ (first second output table : List ℕ) (kept : ℕ) where
       (used ≤ length notes′) × (rowsRefusal (lentOf output table) bad written found rs ≡ none)
       × Known (keepRows found rs) (take used notes′) heads′ × AllSettled first second (keepRows found rs) (take used notes′) rs
   MeasureSays written rs notes′ heads′ (Measured.Refused r) = rowsRefusal (lentOf output table) bad written found rs ≡ some (r .number, r .detail)
+  MeasureSays written rs notes′ heads′ Measured.Crowded = length notes′ < most-notes
+
+-- ---- tries
+
+-- What a try with room for so many words of notes says. Crowded: nothing has changed, and there was not room for all.
+abbrev pub Tried : Bool → Writer → Lent → List Row → List ℕ → List ℕ → ℕ → Outcome → Type 0
+Tried formed w l rs output table size (Outcome.Left r) = leftOf r output table ≡ write formed w l rs
+Tried formed w l rs output table size Outcome.Crowded = (lentOf output table ≡ l) × (size < most-notes)
 
 -- ---- writing
 

@@ -8,8 +8,8 @@ use wire::limits;
 ghost use mathlib.Core.Bool.{cond, true, false};
 ghost use mathlib.Core.List.{[], _∷_};
 ghost use mathlib.Core.Path.{_≡_};
-ghost use Prim.Native.Nat.{_+_, _*_, _/_, _%_, _≤_, _<_};
-ghost use lib.ListN.{length, getD, set, take};
+ghost use Prim.Native.Nat.{_+_, _*_, _-_, _/_, _%_, _≤_, _<_};
+ghost use lib.ListN.{length, getD, set, take, drop};
 ghost use lib.Seq.{sets};
 ghost use Rattle.wire.specs.Header.{be16, be32};
 ghost use Rattle.wire.specs.Limits.{maxStore};
@@ -19,10 +19,12 @@ ghost use Rattle.event.specs.Row.{shape, rowAt};
 ghost use Rattle.event.specs.Words.{rowsForm, listForms};
 ghost use Rattle.writer_spec.specs.Encode.{sized, valueBytes, find};
 ghost use Rattle.writer_spec.specs.Faults.{stringFault, blobFault, valueFault};
+ghost use Rattle.writer_spec.specs.Search.{endOf};
 ghost use Rattle.writer_spec.specs.Writer.{sizesBad, stateBad, poolAt, meetsBad, rowsIn, create, append, write, writeEvent, writeEvents};
 ghost use Rattle.writer.specs.Answers.{lentOf, stateOf, leftOf, formsBy, faultOf, foundOf, searched, sizeOf, measured, placedBy, nameFoundOf, knownOf};
 ghost use Rattle.writer.specs.Notes.{slotBy, slotOf, noteName, Linked, Unnoted, LookSays, Recalled, Fresh};
-ghost use Rattle.writer.specs.Passes.{nameRefusal, roomOf, capped, endsAt, Roomy, Slots, Enough, Kept, NameMeasured, RowNameMeasured, RowMeasured, MeasureSays, Ready, KnownSays, namedBy, rowBy, tokenIn, joinsBy, pairsBy};
+ghost use Rattle.writer.specs.Index.{pairName, Inside, Indexed, MaybeIndexed};
+ghost use Rattle.writer.specs.Passes.{most-notes, nameRefusal, roomOf, capped, endsAt, Slots, callFault, Kept, NameMeasured, RowNameMeasured, RowMeasured, MeasureSays, Tried, Ready, KnownSays, namedBy, rowBy, tokenIn, joinsBy, pairsBy};
 
 // ---- what a call lends
 
@@ -199,6 +201,17 @@ pub enum Found {
     Bad,
 }
 
+// Whether so many bytes from a place on are the name. Most pairs of a pool have another length.
+fn spans_name(output: &[u8], start: usize, len: usize, name: &[u8]) -> bool
+    requires { ⌜ start + len ≤ length (now output) ⌝ }
+    ensures { λ r. ⌜ r ≡ same (take len (drop start (now (output .entry)))) (now (name .entry)) ⌝ }
+{
+    if len != name.len() {
+        return false;
+    }
+    names::same_name(&output[start..start + len], name)
+}
+
 // The first pair that spans the name, among so many; Bad where a pair that ends outside the output comes before it.
 fn search_pool(output: &[u8], pool: &[u32], names: usize, name: &[u8]) -> Found
     requires { ⌜ 2 * names ≤ length (now pool) ⌝ }
@@ -207,11 +220,11 @@ fn search_pool(output: &[u8], pool: &[u32], names: usize, name: &[u8]) -> Found
     let mut i = 0;
     while i < names {
         let start = pool[2 * i] as usize;
-        let end = start + pool[2 * i + 1] as usize;
-        if output.len() < end {
+        let len = pool[2 * i + 1] as usize;
+        if output.len() < start + len {
             return Found::Bad;
         }
-        if event::same_bytes(&output[start..end], name) {
+        if spans_name(output, start, len, name) {
             return Found::At(i);
         }
         i += 1;
@@ -234,21 +247,12 @@ fn slot_by(mixed: u64, slots: usize) -> usize
     (spread * (slots as u64) / 4_294_967_296) as usize
 }
 
-// A name's slot, by its length and a few of its bytes.
+// A name's slot.
 fn slot_of(name: &[u8], slots: usize) -> usize
-    requires { ⌜ (0 < slots) × (slots < 65536) × (length (now name) < 4294967296) ⌝ }
+    requires { ⌜ (0 < slots) × (slots < 65536) ⌝ }
     ensures { λ r. ⌜ r ≡ slotOf slots (now (name .entry)) ⌝ }
 {
-    let len = name.len();
-    if len == 0 {
-        return 0;
-    }
-    let front = (name[0] as u64) * 256 + (name[len / 2] as u64) + (len as u64) * 65536;
-    if len < 4 {
-        return slot_by(front, slots);
-    }
-    let tail = wire::be32(name[len - 4], name[len - 3], name[len - 2], name[len - 1]);
-    slot_by((tail as u64) + front * 40_503, slots)
+    slot_by(names::hash(name), slots)
 }
 
 // Whether a note is of the name that a row has. A name read by its index has the same span again.
@@ -290,7 +294,7 @@ fn look_up<'a>(
     w: &[u32],
     name: &[u8],
     notes: &[u32],
-    heads: &[u32],
+    heads: &[u16],
     slot: usize,
 ) -> Look
     requires { ⌜ 8 ≤ length (now w) ⌝ }
@@ -311,9 +315,9 @@ fn look_up<'a>(
 }
 
 // Adds the note of a row's name.
-fn note(w: &[u32], index: u32, notes: &mut [u32], used: usize, heads: &mut [u32], slot: usize)
+fn note(w: &[u32], index: u32, notes: &mut [u32], used: usize, heads: &mut [u16], slot: usize)
     requires { ⌜ 8 ≤ length (now w) ⌝ }
-    requires { ⌜ (used + 5 ≤ length (now notes)) × (used < 4294967296) ⌝ }
+    requires { ⌜ (used + 5 ≤ length (now notes)) × (used + 5 ≤ most-notes) ⌝ }
     requires { ⌜ slot < length (now heads) ⌝ }
     ensures { λ _. ⌜ now (notes .exit) ≡ sets (now (notes .entry)) used (getD (now (w .entry)) 1 0 ∷ getD (now (w .entry)) 2 0 ∷ getD (now (w .entry)) 3 0 ∷ index ∷ getD (now (heads .entry)) slot 0 ∷ []) ⌝ }
     ensures { λ _. ⌜ now (heads .exit) ≡ set (now (heads .entry)) slot (used / 5 + 1) ⌝ }
@@ -322,13 +326,13 @@ fn note(w: &[u32], index: u32, notes: &mut [u32], used: usize, heads: &mut [u32]
     notes[used + 1] = w[2];
     notes[used + 2] = w[3];
     notes[used + 3] = index;
-    notes[used + 4] = heads[slot];
-    heads[slot] = (used / 5 + 1) as u32;
+    notes[used + 4] = heads[slot] as u32;
+    heads[slot] = (used / 5 + 1) as u16;
 }
 
 // Most names come again with the span that they were noted by. `seen` guesses the note by where a span starts, and the note
 // itself says whether the guess is right, so that nothing hangs on what `seen` holds.
-fn recall(w: &[u32], notes: &[u32], seen: &[u32]) -> Look
+fn recall(w: &[u32], notes: &[u32], seen: &[u16]) -> Look
     requires { ⌜ 8 ≤ length (now w) ⌝ }
     requires { ⌜ Slots (length (now seen)) ⌝ }
     ensures { λ r. ⌜ Recalled (now (w .entry)) (now (notes .entry)) r ⌝ }
@@ -349,13 +353,118 @@ fn recall(w: &[u32], notes: &[u32], seen: &[u32]) -> Look
 }
 
 // Of the notes whose spans start at one place, or share its slot, the first is guessed.
-fn remember(start: u32, k: u32, seen: &mut [u32])
+fn remember(start: u32, k: u16, seen: &mut [u16])
     requires { ⌜ Slots (length (now seen)) ⌝ }
 {
     let place = slot_by(start as u64, seen.len());
     if seen[place] == 0 {
         seen[place] = k;
     }
+}
+
+// ---- the pool's index
+//
+// A long list searches the pool by an index: by slots, the pairs before the first that ends outside the output. A pair is named
+// by how far it is from 65,535, so that 0 names none. The index has each slot's first pair (16,384 words), the number of
+// those pairs, and of each pair the next of its slot.
+
+// How many pairs there are before the first that ends outside.
+fn inside(output: &[u8], pool: &[u32], names: usize) -> usize
+    requires { ⌜ 2 * names ≤ length (now pool) ⌝ }
+    ensures { λ r. ⌜ Inside (now (output .entry)) (now (pool .entry)) names r ⌝ }
+{
+    let mut i = 0;
+    while i < names {
+        let start = pool[2 * i] as usize;
+        let len = pool[2 * i + 1] as usize;
+        if output.len() < start + len {
+            return i;
+        }
+        i += 1;
+    }
+    names
+}
+
+// The slot of a pair's name.
+fn pair_slot(output: &[u8], pool: &[u32], i: usize) -> usize
+    requires { ⌜ 2 * i + 2 ≤ length (now pool) ⌝ }
+    requires { ⌜ endOf (now pool) i ≤ length (now output) ⌝ }
+    ensures { λ r. ⌜ r ≡ slotOf 16384 (pairName (now (output .entry)) (now (pool .entry)) i) ⌝ }
+{
+    let start = pool[2 * i] as usize;
+    let len = pool[2 * i + 1] as usize;
+    slot_of(&output[start..start + len], 16_384)
+}
+
+// A pair goes before the others of its slot.
+fn index_pair(index: &mut [u16], slot: usize, i: usize)
+    requires { ⌜ length (now index) ≡ 81920 ⌝ }
+    requires { ⌜ (slot < 16384) × (i < 65535) ⌝ }
+    ensures { λ _. ⌜ now (index .exit) ≡ set (set (now (index .entry)) (16385 + i) (getD (now (index .entry)) slot 0)) slot (65535 - i) ⌝ }
+{
+    index[16_385 + i] = index[slot];
+    index[slot] = (65_535 - i) as u16;
+}
+
+// All pairs that there are, the last first.
+fn index_pool(output: &[u8], pool: &[u32], names: usize, index: &mut [u16])
+    requires { ⌜ (2 * names ≤ length (now pool)) × (names ≤ 65535) ⌝ }
+    requires { ⌜ (length (now index) ≡ 81920) × Fresh (now index) ⌝ }
+    ensures { λ _. ⌜ Indexed (now (output .entry)) (now (pool .entry)) names (now (index .exit)) ⌝ }
+{
+    let bound = inside(output, pool, names);
+    let mut i = bound;
+    while 0 < i {
+        i -= 1;
+        let slot = pair_slot(output, pool, i);
+        index_pair(index, slot, i);
+    }
+    index[16_384] = bound as u16;
+}
+
+// What `search_pool` finds, by the index.
+fn search_index(output: &[u8], pool: &[u32], names: usize, name: &[u8], index: &[u16]) -> Found
+    requires { ⌜ 2 * names ≤ length (now pool) ⌝ }
+    requires { ⌜ Indexed (now output) (now pool) names (now index) ⌝ }
+    ensures { λ r. ⌜ foundOf r ≡ searched (now (output .entry)) names (now (pool .entry)) (now (name .entry)) ⌝ }
+{
+    let mut next = index[slot_of(name, 16_384)] as usize;
+    while next != 0 {
+        let i = 65_535 - next;
+        let start = pool[2 * i] as usize;
+        let len = pool[2 * i + 1] as usize;
+        if spans_name(output, start, len, name) {
+            return Found::At(i);
+        }
+        next = index[16_385 + i] as usize;
+    }
+    if (index[16_384] as usize) < names {
+        return Found::Bad;
+    }
+    Found::Nowhere
+}
+
+// The index of a call that has room for one.
+fn prepare(output: &[u8], pool: &[u32], names: usize, index: &mut [u16])
+    requires { ⌜ (2 * names ≤ length (now pool)) × (names ≤ 65535) ⌝ }
+    requires { ⌜ Fresh (now index) ⌝ }
+    ensures { λ _. ⌜ MaybeIndexed (now (output .entry)) (now (pool .entry)) names (now (index .exit)) ⌝ }
+{
+    if index.len() == 81_920 {
+        index_pool(output, pool, names, index);
+    }
+}
+
+// What a search of the pool finds, by the index where there is one.
+fn search(output: &[u8], pool: &[u32], names: usize, name: &[u8], index: &[u16]) -> Found
+    requires { ⌜ MaybeIndexed (now output) (now pool) names (now index) ⌝ }
+    requires { ⌜ 2 * names ≤ length (now pool) ⌝ }
+    ensures { λ r. ⌜ foundOf r ≡ searched (now (output .entry)) names (now (pool .entry)) (now (name .entry)) ⌝ }
+{
+    if index.len() == 81_920 {
+        return search_index(output, pool, names, name, index);
+    }
+    search_pool(output, pool, names, name)
 }
 
 // ---- measuring
@@ -367,14 +476,15 @@ pub enum NameFound {
 }
 
 // A name with no note: its own 14 and 7, and then its search.
-fn find_name(output: &[u8], pool: &[u32], kept: usize, name: &[u8]) -> NameFound
+fn find_name(output: &[u8], pool: &[u32], kept: usize, name: &[u8], index: &[u16]) -> NameFound
+    requires { ⌜ MaybeIndexed (now output) (now pool) kept (now index) ⌝ }
     requires { ⌜ 2 * kept ≤ length (now pool) ⌝ }
     requires { ⌜ length (now name) < 4294967296 ⌝ }
     ensures { λ r. ⌜ nameFoundOf r ≡ placedBy (nameRefusal (meetsBad (now (output .entry)) kept (now (pool .entry))) (now (name .entry))) (find (poolAt (now (output .entry)) kept (now (pool .entry))) (now (name .entry))) ⌝ }
 {
     match string_fault(name) {
         Fault::Refused(r) => NameFound::Refused(r),
-        Fault::Nothing => match search_pool(output, pool, kept, name) {
+        Fault::Nothing => match search(output, pool, kept, name, index) {
             Found::At(i) => NameFound::At(i),
             Found::Nowhere => NameFound::Nowhere,
             Found::Bad => NameFound::Refused(Refusal::new(Refusal::BAD_STATE)),
@@ -390,9 +500,10 @@ pub enum NameSize {
         used: usize,
     },
     Refused(Refusal),
+    Crowded,
 }
 
-// A name with no note gets one where it is in the pool or joins it.
+// A name with no note gets one where it is in the pool or joins it; Crowded where there is no room for the note.
 fn unnoted_size<'a>(
     first: &'a [u8],
     second: &'a [u8],
@@ -404,21 +515,26 @@ fn unnoted_size<'a>(
     names: usize,
     notes: &mut [u32],
     used: usize,
-    heads: &mut [u32],
+    heads: &mut [u16],
     slot: usize,
+    index: &[u16],
 ) -> NameSize
+    requires { ⌜ MaybeIndexed (now output) (now pool) kept (now index) ⌝ }
     requires { ⌜ 8 ≤ length (now w) ⌝ }
     requires { ⌜ now name ≡ span (now first) (now second) (getD (now w) 1 0) (getD (now w) 2 0) (getD (now w) 3 0) ⌝ }
     requires { ⌜ 2 * kept ≤ length (now pool) ⌝ }
-    requires { ⌜ Roomy used (length (now notes)) ⌝ }
+    requires { ⌜ used ≤ length (now notes) ⌝ }
     requires { ⌜ (slot ≡ slotOf (length (now heads)) (now name)) × (slot < length (now heads)) ⌝ }
     requires { ⌜ Kept (now first) (now second) (now output) (now pool) kept names (take used (now notes)) (now heads) ⌝ }
     requires { ⌜ Unnoted (now first) (now second) (take used (now notes)) (now name) ⌝ }
     ensures { λ r. ⌜ NameMeasured (now (first .entry)) (now (second .entry)) (now (output .entry)) (now (pool .entry)) kept names (now (name .entry)) used (now (notes .entry)) (now (heads .entry)) (now (notes .exit)) (now (heads .exit)) r ⌝ }
 {
-    match find_name(output, pool, kept, name) {
+    match find_name(output, pool, kept, name, index) {
         NameFound::Refused(r) => NameSize::Refused(r),
         NameFound::At(i) => {
+            if notes.len() - used < 5 {
+                return NameSize::Crowded;
+            }
             note(w, i as u32, notes, used, heads, slot);
             NameSize::Takes {
                 size: 2,
@@ -429,6 +545,9 @@ fn unnoted_size<'a>(
         NameFound::Nowhere => {
             let size = 4 + name.len();
             if names < wire::INTERNED_NEW as usize {
+                if notes.len() - used < 5 {
+                    return NameSize::Crowded;
+                }
                 note(w, names as u32, notes, used, heads, slot);
                 return NameSize::Takes {
                     size,
@@ -452,11 +571,13 @@ fn name_size<'a>(
     names: usize,
     notes: &mut [u32],
     used: usize,
-    heads: &mut [u32],
+    heads: &mut [u16],
+    index: &[u16],
 ) -> NameSize
+    requires { ⌜ MaybeIndexed (now output) (now pool) kept (now index) ⌝ }
     requires { ⌜ 8 ≤ length (now w) ⌝ }
     requires { ⌜ 2 * kept ≤ length (now pool) ⌝ }
-    requires { ⌜ Roomy used (length (now notes)) ⌝ }
+    requires { ⌜ used ≤ length (now notes) ⌝ }
     requires { ⌜ Slots (length (now heads)) ⌝ }
     requires { ⌜ Kept (now first) (now second) (now output) (now pool) kept names (take used (now notes)) (now heads) ⌝ }
     ensures { λ r. ⌜ RowNameMeasured (now (first .entry)) (now (second .entry)) (now (output .entry)) (now (pool .entry)) kept names (rowAt (now (first .entry)) (now (second .entry)) (now (w .entry))) used (now (notes .entry)) (now (heads .entry)) (now (notes .exit)) (now (heads .exit)) r ⌝ }
@@ -483,6 +604,7 @@ fn name_size<'a>(
                 used,
                 heads,
                 slot,
+                index,
             ),
         };
     }
@@ -504,12 +626,14 @@ fn quick_name_size<'a>(
     names: usize,
     notes: &mut [u32],
     used: usize,
-    heads: &mut [u32],
-    seen: &mut [u32],
+    heads: &mut [u16],
+    seen: &mut [u16],
+    index: &[u16],
 ) -> NameSize
+    requires { ⌜ MaybeIndexed (now output) (now pool) kept (now index) ⌝ }
     requires { ⌜ 8 ≤ length (now w) ⌝ }
     requires { ⌜ 2 * kept ≤ length (now pool) ⌝ }
-    requires { ⌜ Roomy used (length (now notes)) ⌝ }
+    requires { ⌜ used ≤ length (now notes) ⌝ }
     requires { ⌜ Slots (length (now heads)) × Slots (length (now seen)) ⌝ }
     requires { ⌜ Kept (now first) (now second) (now output) (now pool) kept names (take used (now notes)) (now heads) ⌝ }
     ensures { λ r. ⌜ RowNameMeasured (now (first .entry)) (now (second .entry)) (now (output .entry)) (now (pool .entry)) kept names (rowAt (now (first .entry)) (now (second .entry)) (now (w .entry))) used (now (notes .entry)) (now (heads .entry)) (now (notes .exit)) (now (heads .exit)) r ⌝ }
@@ -522,7 +646,7 @@ fn quick_name_size<'a>(
                 used,
             };
         }
-        remember(w[2], (used / 5) as u32, seen);
+        remember(w[2], (used / 5) as u16, seen);
         return name_size(
             first,
             second,
@@ -534,6 +658,7 @@ fn quick_name_size<'a>(
             notes,
             used,
             heads,
+            index,
         );
     }
     NameSize::Takes {
@@ -554,6 +679,7 @@ pub struct Tally {
 pub enum RowSize {
     Takes(Tally),
     Refused(Refusal),
+    Crowded,
 }
 
 // A place past the end of the output counts as one past it.
@@ -577,13 +703,15 @@ fn measure_row<'a>(
     kept: usize,
     tally: Tally,
     notes: &mut [u32],
-    heads: &mut [u32],
-    seen: &mut [u32],
+    heads: &mut [u16],
+    seen: &mut [u16],
+    index: &[u16],
 ) -> RowSize
+    requires { ⌜ MaybeIndexed (now output) (now pool) kept (now index) ⌝ }
     requires { ⌜ 8 ≤ length (now w) ⌝ }
     requires { ⌜ (length (now output) ≤ maxStore) × (tally .at ≤ maxStore + 1) ⌝ }
     requires { ⌜ 2 * kept ≤ length (now pool) ⌝ }
-    requires { ⌜ Roomy (tally .used) (length (now notes)) ⌝ }
+    requires { ⌜ tally .used ≤ length (now notes) ⌝ }
     requires { ⌜ Slots (length (now heads)) × Slots (length (now seen)) ⌝ }
     requires { ⌜ Kept (now first) (now second) (now output) (now pool) kept (tally .names) (take (tally .used) (now notes)) (now heads) ⌝ }
     ensures { λ r. ⌜ RowMeasured (now (first .entry)) (now (second .entry)) (now (output .entry)) (now (pool .entry)) kept (rowAt (now (first .entry)) (now (second .entry)) (now (w .entry))) tally (now (notes .entry)) (now (heads .entry)) (now (notes .exit)) (now (heads .exit)) r ⌝ }
@@ -602,8 +730,10 @@ fn measure_row<'a>(
         noted,
         heads,
         seen,
+        index,
     ) {
         NameSize::Refused(r) => RowSize::Refused(r),
+        NameSize::Crowded => RowSize::Crowded,
         NameSize::Takes { size, names, used } => match value_size(first, second, w) {
             Size::Refused(r) => RowSize::Refused(r),
             Size::Takes(more) => RowSize::Takes(Tally {
@@ -642,6 +772,7 @@ fn room_fault(output: &[u8], pool: &[u32], at: usize, names: usize) -> Fault
 pub enum Measured {
     Used(usize),
     Refused(Refusal),
+    Crowded,
 }
 
 // The first pass: it writes nothing but notes.
@@ -653,13 +784,14 @@ fn measure<'a>(
     pool: &[u32],
     writer: Writer,
     notes: &mut [u32],
-    heads: &mut [u32],
-    seen: &mut [u32],
+    heads: &mut [u16],
+    seen: &mut [u16],
+    index: &[u16],
 ) -> Measured
+    requires { ⌜ MaybeIndexed (now output) (now pool) (writer .names) (now index) ⌝ }
     requires { ⌜ length (now rows) % 8 ≡ 0 ⌝ }
     requires { ⌜ (length (now output) ≤ maxStore) × (writer .written ≤ length (now output)) ⌝ }
     requires { ⌜ (2 * writer .names ≤ length (now pool)) × (writer .names ≤ internedNew) ⌝ }
-    requires { ⌜ Enough (length (now rows)) (length (now notes)) ⌝ }
     requires { ⌜ Slots (length (now heads)) × Fresh (now heads) ⌝ }
     requires { ⌜ Slots (length (now seen)) ⌝ }
     ensures { λ r. ⌜ MeasureSays (now (first .entry)) (now (second .entry)) (now (output .entry)) (now (pool .entry)) (writer .names) (writer .written) (rowsIn (now (first .entry)) (now (second .entry)) (now (rows .entry))) (now (notes .exit)) (now (heads .exit)) r ⌝ }
@@ -683,9 +815,13 @@ fn measure<'a>(
             notes,
             heads,
             seen,
+            index,
         ) {
             RowSize::Refused(r) => {
                 return Measured::Refused(r);
+            }
+            RowSize::Crowded => {
+                return Measured::Crowded;
             }
             RowSize::Takes(t) => {
                 tally = t;
@@ -718,7 +854,7 @@ fn known_name<'a>(
     w: &[u32],
     names: usize,
     notes: &[u32],
-    heads: &[u32],
+    heads: &[u16],
 ) -> Known
     requires { ⌜ 8 ≤ length (now w) ⌝ }
     requires { ⌜ Slots (length (now heads)) ⌝ }
@@ -744,8 +880,8 @@ fn quick_known_name<'a>(
     w: &[u32],
     names: usize,
     notes: &[u32],
-    heads: &[u32],
-    seen: &[u32],
+    heads: &[u16],
+    seen: &[u16],
 ) -> Known
     requires { ⌜ 8 ≤ length (now w) ⌝ }
     requires { ⌜ Slots (length (now heads)) × Slots (length (now seen)) ⌝ }
@@ -927,8 +1063,8 @@ fn write_rows<'a>(
     pool: &mut [u32],
     writer: Writer,
     notes: &[u32],
-    heads: &[u32],
-    seen: &[u32],
+    heads: &[u16],
+    seen: &[u16],
 ) -> Writer
     requires { ⌜ length (now rows) % 8 ≡ 0 ⌝ }
     requires { ⌜ rowsForm (now first) (now second) false (length (now rows) / 8) (now rows) ≡ true ⌝ }
@@ -950,7 +1086,13 @@ fn write_rows<'a>(
     Writer { written: at, names }
 }
 
-// Rows that form, with room for notes: all that is left to refuse them is found by measuring.
+// What a try with so many notes came to. Crowded: it had no room for another, and changed nothing.
+pub enum Outcome {
+    Left(Written),
+    Crowded,
+}
+
+// Rows that form: all that is left to refuse them is found by measuring.
 fn write_noted<'a>(
     writer: Writer,
     first: &'a [u8],
@@ -959,16 +1101,17 @@ fn write_noted<'a>(
     output: &mut [u8],
     pool: &mut [u32],
     notes: &mut [u32],
-    heads: &mut [u32],
-    seen: &mut [u32],
-) -> Written
+    heads: &mut [u16],
+    seen: &mut [u16],
+    index: &[u16],
+) -> Outcome
+    requires { ⌜ MaybeIndexed (now output) (now pool) (writer .names) (now index) ⌝ }
     requires { ⌜ listForms (now first) (now second) (now rows) ≡ true ⌝ }
     requires { ⌜ sizesBad (lentOf (now output) (now pool)) ≡ false ⌝ }
     requires { ⌜ stateBad (stateOf writer) (lentOf (now output) (now pool)) ≡ false ⌝ }
-    requires { ⌜ Enough (length (now rows)) (length (now notes)) ⌝ }
     requires { ⌜ Slots (length (now heads)) × Fresh (now heads) ⌝ }
     requires { ⌜ Slots (length (now seen)) ⌝ }
-    ensures { λ r. ⌜ leftOf r (now (output .exit)) (now (pool .exit)) ≡ write true (stateOf writer) (lentOf (now (output .entry)) (now (pool .entry))) (rowsIn (now (first .entry)) (now (second .entry)) (now (rows .entry))) ⌝ }
+    ensures { λ r. ⌜ Tried true (stateOf writer) (lentOf (now (output .entry)) (now (pool .entry))) (rowsIn (now (first .entry)) (now (second .entry)) (now (rows .entry))) (now (output .exit)) (now (pool .exit)) (length (now (notes .entry))) r ⌝ }
 {
     match measure(
         first,
@@ -980,9 +1123,11 @@ fn write_noted<'a>(
         notes,
         heads,
         seen,
+        index,
     ) {
-        Measured::Refused(r) => Written::Refused(r),
-        Measured::Used(used) => Written::Wrote(write_rows(
+        Measured::Refused(r) => Outcome::Left(Written::Refused(r)),
+        Measured::Crowded => Outcome::Crowded,
+        Measured::Used(used) => Outcome::Left(Written::Wrote(write_rows(
             first,
             second,
             rows,
@@ -992,125 +1137,11 @@ fn write_noted<'a>(
             &notes[..used],
             heads,
             seen,
-        )),
+        ))),
     }
 }
 
-// Notes of up to 64 names: an event's.
-fn write_few<'a>(
-    writer: Writer,
-    first: &'a [u8],
-    second: &'a [u8],
-    rows: &[u32],
-    output: &mut [u8],
-    pool: &mut [u32],
-) -> Written
-    requires { ⌜ listForms (now first) (now second) (now rows) ≡ true ⌝ }
-    requires { ⌜ sizesBad (lentOf (now output) (now pool)) ≡ false ⌝ }
-    requires { ⌜ stateBad (stateOf writer) (lentOf (now output) (now pool)) ≡ false ⌝ }
-    requires { ⌜ length (now rows) ≤ 512 ⌝ }
-    ensures { λ r. ⌜ leftOf r (now (output .exit)) (now (pool .exit)) ≡ write true (stateOf writer) (lentOf (now (output .entry)) (now (pool .entry))) (rowsIn (now (first .entry)) (now (second .entry)) (now (rows .entry))) ⌝ }
-{
-    let mut notes = [0u32; 320];
-    let mut heads = [0u32; 64];
-    let mut seen = [0u32; 64];
-    write_noted(
-        writer,
-        first,
-        second,
-        rows,
-        output,
-        pool,
-        &mut notes,
-        &mut heads,
-        &mut seen,
-    )
-}
-
-// Notes of up to 4,096 names.
-fn write_more<'a>(
-    writer: Writer,
-    first: &'a [u8],
-    second: &'a [u8],
-    rows: &[u32],
-    output: &mut [u8],
-    pool: &mut [u32],
-) -> Written
-    requires { ⌜ listForms (now first) (now second) (now rows) ≡ true ⌝ }
-    requires { ⌜ sizesBad (lentOf (now output) (now pool)) ≡ false ⌝ }
-    requires { ⌜ stateBad (stateOf writer) (lentOf (now output) (now pool)) ≡ false ⌝ }
-    requires { ⌜ length (now rows) ≤ 32_768 ⌝ }
-    ensures { λ r. ⌜ leftOf r (now (output .exit)) (now (pool .exit)) ≡ write true (stateOf writer) (lentOf (now (output .entry)) (now (pool .entry))) (rowsIn (now (first .entry)) (now (second .entry)) (now (rows .entry))) ⌝ }
-{
-    let mut notes = [0u32; 20_480];
-    let mut heads = [0u32; 4_096];
-    let mut seen = [0u32; 4_096];
-    write_noted(
-        writer,
-        first,
-        second,
-        rows,
-        output,
-        pool,
-        &mut notes,
-        &mut heads,
-        &mut seen,
-    )
-}
-
-// Notes of every name that a pool can hold.
-fn write_many<'a>(
-    writer: Writer,
-    first: &'a [u8],
-    second: &'a [u8],
-    rows: &[u32],
-    output: &mut [u8],
-    pool: &mut [u32],
-) -> Written
-    requires { ⌜ listForms (now first) (now second) (now rows) ≡ true ⌝ }
-    requires { ⌜ sizesBad (lentOf (now output) (now pool)) ≡ false ⌝ }
-    requires { ⌜ stateBad (stateOf writer) (lentOf (now output) (now pool)) ≡ false ⌝ }
-    ensures { λ r. ⌜ leftOf r (now (output .exit)) (now (pool .exit)) ≡ write true (stateOf writer) (lentOf (now (output .entry)) (now (pool .entry))) (rowsIn (now (first .entry)) (now (second .entry)) (now (rows .entry))) ⌝ }
-{
-    let mut notes = [0u32; 327_675];
-    let mut heads = [0u32; 16_384];
-    let mut seen = [0u32; 32_768];
-    write_noted(
-        writer,
-        first,
-        second,
-        rows,
-        output,
-        pool,
-        &mut notes,
-        &mut heads,
-        &mut seen,
-    )
-}
-
-fn write_formed<'a>(
-    writer: Writer,
-    first: &'a [u8],
-    second: &'a [u8],
-    rows: &[u32],
-    output: &mut [u8],
-    pool: &mut [u32],
-) -> Written
-    requires { ⌜ listForms (now first) (now second) (now rows) ≡ true ⌝ }
-    requires { ⌜ sizesBad (lentOf (now output) (now pool)) ≡ false ⌝ }
-    requires { ⌜ stateBad (stateOf writer) (lentOf (now output) (now pool)) ≡ false ⌝ }
-    ensures { λ r. ⌜ leftOf r (now (output .exit)) (now (pool .exit)) ≡ write true (stateOf writer) (lentOf (now (output .entry)) (now (pool .entry))) (rowsIn (now (first .entry)) (now (second .entry)) (now (rows .entry))) ⌝ }
-{
-    if rows.len() <= 512 {
-        return write_few(writer, first, second, rows, output, pool);
-    }
-    if rows.len() <= 32_768 {
-        return write_more(writer, first, second, rows, output, pool);
-    }
-    write_many(writer, first, second, rows, output, pool)
-}
-
-// ---- the calls
+// ---- calls with rows
 
 // Whether words form rows that a call takes.
 fn forms(single: bool, first: &[u8], second: &[u8], rows: &[u32]) -> bool
@@ -1121,6 +1152,330 @@ fn forms(single: bool, first: &[u8], second: &[u8], rows: &[u32]) -> bool
     }
     forms::list_forms(first, second, rows)
 }
+
+// What refuses a call before its rows are looked at: 17, 19 and 16. single says that they must be one event's.
+fn call_fault(
+    single: bool,
+    writer: Writer,
+    first: &[u8],
+    second: &[u8],
+    rows: &[u32],
+    output: &[u8],
+    pool: &[u32],
+) -> Fault
+    ensures { λ r. ⌜ faultOf r ≡ callFault (formsBy single (now (first .entry)) (now (second .entry)) (now (rows .entry))) (stateOf writer) (lentOf (now (output .entry)) (now (pool .entry))) ⌝ }
+{
+    if sizes_bad(output, pool) {
+        return Fault::Refused(Refusal::new(Refusal::BAD_SIZE));
+    }
+    if state_bad(writer, output, pool) {
+        return Fault::Refused(Refusal::new(Refusal::BAD_STATE));
+    }
+    if forms(single, first, second, rows) {
+        return Fault::Nothing;
+    }
+    Fault::Refused(Refusal::new(Refusal::NOT_ROWS))
+}
+
+// The checks, and then the rows.
+fn write_checked<'a>(
+    single: bool,
+    writer: Writer,
+    first: &'a [u8],
+    second: &'a [u8],
+    rows: &[u32],
+    output: &mut [u8],
+    pool: &mut [u32],
+    notes: &mut [u32],
+    heads: &mut [u16],
+    seen: &mut [u16],
+    index: &mut [u16],
+) -> Outcome
+    requires { ⌜ Fresh (now index) ⌝ }
+    requires { ⌜ Slots (length (now heads)) × Fresh (now heads) ⌝ }
+    requires { ⌜ Slots (length (now seen)) ⌝ }
+    ensures { λ r. ⌜ Tried (formsBy single (now (first .entry)) (now (second .entry)) (now (rows .entry))) (stateOf writer) (lentOf (now (output .entry)) (now (pool .entry))) (rowsIn (now (first .entry)) (now (second .entry)) (now (rows .entry))) (now (output .exit)) (now (pool .exit)) (length (now (notes .entry))) r ⌝ }
+{
+    match call_fault(single, writer, first, second, rows, output, pool) {
+        Fault::Refused(r) => Outcome::Left(Written::Refused(r)),
+        Fault::Nothing => {
+            prepare(output, pool, writer.names, index);
+            write_noted(
+                writer,
+                first,
+                second,
+                rows,
+                output,
+                pool,
+                notes,
+                heads,
+                seen,
+                index,
+            )
+        }
+    }
+}
+
+// ---- tries, by how many names they can note
+//
+// The arrays of a try are its function's stack, and the compiler joins the frames of functions that it puts into one. It leaves apart a function that has two tries
+// and two callers: hence the pairs below.
+
+// Notes of 64 names.
+fn write_few<'a>(
+    single: bool,
+    writer: Writer,
+    first: &'a [u8],
+    second: &'a [u8],
+    rows: &[u32],
+    output: &mut [u8],
+    pool: &mut [u32],
+) -> Outcome
+    ensures { λ r. ⌜ Tried (formsBy single (now (first .entry)) (now (second .entry)) (now (rows .entry))) (stateOf writer) (lentOf (now (output .entry)) (now (pool .entry))) (rowsIn (now (first .entry)) (now (second .entry)) (now (rows .entry))) (now (output .exit)) (now (pool .exit)) 320 r ⌝ }
+{
+    let mut notes = [0u32; 320];
+    let mut heads = [0u16; 64];
+    let mut seen = [0u16; 64];
+    let mut index = [0u16; 1];
+    write_checked(
+        single,
+        writer,
+        first,
+        second,
+        rows,
+        output,
+        pool,
+        &mut notes,
+        &mut heads,
+        &mut seen,
+        &mut index,
+    )
+}
+
+// Notes of 1,024 names.
+fn write_some<'a>(
+    single: bool,
+    writer: Writer,
+    first: &'a [u8],
+    second: &'a [u8],
+    rows: &[u32],
+    output: &mut [u8],
+    pool: &mut [u32],
+) -> Outcome
+    ensures { λ r. ⌜ Tried (formsBy single (now (first .entry)) (now (second .entry)) (now (rows .entry))) (stateOf writer) (lentOf (now (output .entry)) (now (pool .entry))) (rowsIn (now (first .entry)) (now (second .entry)) (now (rows .entry))) (now (output .exit)) (now (pool .exit)) 5_120 r ⌝ }
+{
+    let mut notes = [0u32; 5_120];
+    let mut heads = [0u16; 1_024];
+    let mut seen = [0u16; 1_024];
+    let mut index = [0u16; 1];
+    write_checked(
+        single,
+        writer,
+        first,
+        second,
+        rows,
+        output,
+        pool,
+        &mut notes,
+        &mut heads,
+        &mut seen,
+        &mut index,
+    )
+}
+
+// Notes of 20,480 names, and the pool's index.
+fn write_many<'a>(
+    single: bool,
+    writer: Writer,
+    first: &'a [u8],
+    second: &'a [u8],
+    rows: &[u32],
+    output: &mut [u8],
+    pool: &mut [u32],
+) -> Outcome
+    ensures { λ r. ⌜ Tried (formsBy single (now (first .entry)) (now (second .entry)) (now (rows .entry))) (stateOf writer) (lentOf (now (output .entry)) (now (pool .entry))) (rowsIn (now (first .entry)) (now (second .entry)) (now (rows .entry))) (now (output .exit)) (now (pool .exit)) 102_400 r ⌝ }
+{
+    let mut notes = [0u32; 102_400];
+    let mut heads = [0u16; 8_192];
+    let mut seen = [0u16; 8_192];
+    let mut index = [0u16; 81_920];
+    write_checked(
+        single,
+        writer,
+        first,
+        second,
+        rows,
+        output,
+        pool,
+        &mut notes,
+        &mut heads,
+        &mut seen,
+        &mut index,
+    )
+}
+
+// Notes of 20,480 names.
+fn write_most<'a>(
+    single: bool,
+    writer: Writer,
+    first: &'a [u8],
+    second: &'a [u8],
+    rows: &[u32],
+    output: &mut [u8],
+    pool: &mut [u32],
+) -> Outcome
+    ensures { λ r. ⌜ Tried (formsBy single (now (first .entry)) (now (second .entry)) (now (rows .entry))) (stateOf writer) (lentOf (now (output .entry)) (now (pool .entry))) (rowsIn (now (first .entry)) (now (second .entry)) (now (rows .entry))) (now (output .exit)) (now (pool .exit)) 102_400 r ⌝ }
+{
+    let mut notes = [0u32; 102_400];
+    let mut heads = [0u16; 8_192];
+    let mut seen = [0u16; 65_535];
+    let mut index = [0u16; 1];
+    write_checked(
+        single,
+        writer,
+        first,
+        second,
+        rows,
+        output,
+        pool,
+        &mut notes,
+        &mut heads,
+        &mut seen,
+        &mut index,
+    )
+}
+
+// Notes of 32,768 names, and the pool's index.
+fn write_nearly_all<'a>(
+    single: bool,
+    writer: Writer,
+    first: &'a [u8],
+    second: &'a [u8],
+    rows: &[u32],
+    output: &mut [u8],
+    pool: &mut [u32],
+) -> Outcome
+    ensures { λ r. ⌜ Tried (formsBy single (now (first .entry)) (now (second .entry)) (now (rows .entry))) (stateOf writer) (lentOf (now (output .entry)) (now (pool .entry))) (rowsIn (now (first .entry)) (now (second .entry)) (now (rows .entry))) (now (output .exit)) (now (pool .exit)) 163_840 r ⌝ }
+{
+    let mut notes = [0u32; 163_840];
+    let mut heads = [0u16; 16_384];
+    let mut seen = [0u16; 32_768];
+    let mut index = [0u16; 81_920];
+    write_checked(
+        single,
+        writer,
+        first,
+        second,
+        rows,
+        output,
+        pool,
+        &mut notes,
+        &mut heads,
+        &mut seen,
+        &mut index,
+    )
+}
+
+// Notes of every name that a pool can hold: it is never crowded.
+fn write_all<'a>(
+    single: bool,
+    writer: Writer,
+    first: &'a [u8],
+    second: &'a [u8],
+    rows: &[u32],
+    output: &mut [u8],
+    pool: &mut [u32],
+) -> Written
+    ensures { λ r. ⌜ leftOf r (now (output .exit)) (now (pool .exit)) ≡ write (formsBy single (now (first .entry)) (now (second .entry)) (now (rows .entry))) (stateOf writer) (lentOf (now (output .entry)) (now (pool .entry))) (rowsIn (now (first .entry)) (now (second .entry)) (now (rows .entry))) ⌝ }
+{
+    let mut notes = [0u32; 327_675];
+    let mut heads = [0u16; 16_384];
+    let mut seen = [0u16; 32_768];
+    let mut index = [0u16; 81_920];
+    match write_checked(
+        single,
+        writer,
+        first,
+        second,
+        rows,
+        output,
+        pool,
+        &mut notes,
+        &mut heads,
+        &mut seen,
+        &mut index,
+    ) {
+        Outcome::Left(w) => w,
+        Outcome::Crowded => refused(Refusal::POOL_FULL),
+    }
+}
+
+// Up to 4,096 rows. A list on a pool of many names is left to a try that has an index of it.
+fn write_short<'a>(
+    single: bool,
+    writer: Writer,
+    first: &'a [u8],
+    second: &'a [u8],
+    rows: &[u32],
+    output: &mut [u8],
+    pool: &mut [u32],
+) -> Outcome
+    ensures { λ r. ⌜ Tried (formsBy single (now (first .entry)) (now (second .entry)) (now (rows .entry))) (stateOf writer) (lentOf (now (output .entry)) (now (pool .entry))) (rowsIn (now (first .entry)) (now (second .entry)) (now (rows .entry))) (now (output .exit)) (now (pool .exit)) 5_120 r ⌝ }
+{
+    if rows.len() <= 512 {
+        return write_few(single, writer, first, second, rows, output, pool);
+    }
+    if rows.len() <= 32_768 {
+        if single {
+            return write_some(single, writer, first, second, rows, output, pool);
+        }
+        if writer.names < 256 {
+            return write_some(single, writer, first, second, rows, output, pool);
+        }
+    }
+    Outcome::Crowded
+}
+
+// Any number of rows.
+fn write_long<'a>(
+    single: bool,
+    writer: Writer,
+    first: &'a [u8],
+    second: &'a [u8],
+    rows: &[u32],
+    output: &mut [u8],
+    pool: &mut [u32],
+) -> Outcome
+    ensures { λ r. ⌜ Tried (formsBy single (now (first .entry)) (now (second .entry)) (now (rows .entry))) (stateOf writer) (lentOf (now (output .entry)) (now (pool .entry))) (rowsIn (now (first .entry)) (now (second .entry)) (now (rows .entry))) (now (output .exit)) (now (pool .exit)) 102_400 r ⌝ }
+{
+    if writer.names < 256 {
+        return write_most(single, writer, first, second, rows, output, pool);
+    }
+    write_many(single, writer, first, second, rows, output, pool)
+}
+
+// Any number of rows and names.
+fn write_longest<'a>(
+    single: bool,
+    writer: Writer,
+    first: &'a [u8],
+    second: &'a [u8],
+    rows: &[u32],
+    output: &mut [u8],
+    pool: &mut [u32],
+) -> Written
+    ensures { λ r. ⌜ leftOf r (now (output .exit)) (now (pool .exit)) ≡ write (formsBy single (now (first .entry)) (now (second .entry)) (now (rows .entry))) (stateOf writer) (lentOf (now (output .entry)) (now (pool .entry))) (rowsIn (now (first .entry)) (now (second .entry)) (now (rows .entry))) ⌝ }
+{
+    if 262_144 < rows.len() {
+        return write_all(single, writer, first, second, rows, output, pool);
+    }
+    if let Outcome::Left(w) = write_nearly_all(single, writer, first, second, rows, output, pool) {
+        return w;
+    }
+    write_all(single, writer, first, second, rows, output, pool)
+}
+
+// ---- the calls
 
 // The header and an empty pool.
 pub fn create(output: &mut [u8], pool: &[u32]) -> Written
@@ -1142,30 +1497,6 @@ pub fn create(output: &mut [u8], pool: &[u32]) -> Written
     })
 }
 
-// A call with rows: its checks in their order, and then the rows. single says that they must be one event's.
-fn write_checked<'a>(
-    single: bool,
-    writer: Writer,
-    first: &'a [u8],
-    second: &'a [u8],
-    rows: &[u32],
-    output: &mut [u8],
-    pool: &mut [u32],
-) -> Written
-    ensures { λ r. ⌜ leftOf r (now (output .exit)) (now (pool .exit)) ≡ write (formsBy single (now (first .entry)) (now (second .entry)) (now (rows .entry))) (stateOf writer) (lentOf (now (output .entry)) (now (pool .entry))) (rowsIn (now (first .entry)) (now (second .entry)) (now (rows .entry))) ⌝ }
-{
-    if sizes_bad(output, pool) {
-        return refused(Refusal::BAD_SIZE);
-    }
-    if state_bad(writer, output, pool) {
-        return refused(Refusal::BAD_STATE);
-    }
-    if forms(single, first, second, rows) {
-        return write_formed(writer, first, second, rows, output, pool);
-    }
-    refused(Refusal::NOT_ROWS)
-}
-
 // Exactly one event, its rows' spans in two stores.
 pub fn write_event<'a>(
     writer: Writer,
@@ -1177,7 +1508,13 @@ pub fn write_event<'a>(
 ) -> Written
     ensures { λ r. ⌜ leftOf r (now (output .exit)) (now (pool .exit)) ≡ writeEvent (stateOf writer) (now (first .entry)) (now (second .entry)) (now (rows .entry)) (lentOf (now (output .entry)) (now (pool .entry))) ⌝ }
 {
-    write_checked(true, writer, first, second, rows, output, pool)
+    if let Outcome::Left(w) = write_short(true, writer, first, second, rows, output, pool) {
+        return w;
+    }
+    if let Outcome::Left(w) = write_long(true, writer, first, second, rows, output, pool) {
+        return w;
+    }
+    write_longest(true, writer, first, second, rows, output, pool)
 }
 
 // A list of events: all of them, or none.
@@ -1191,5 +1528,11 @@ pub fn write_events<'a>(
 ) -> Written
     ensures { λ r. ⌜ leftOf r (now (output .exit)) (now (pool .exit)) ≡ writeEvents (stateOf writer) (now (first .entry)) (now (second .entry)) (now (rows .entry)) (lentOf (now (output .entry)) (now (pool .entry))) ⌝ }
 {
-    write_checked(false, writer, first, second, rows, output, pool)
+    if let Outcome::Left(w) = write_short(false, writer, first, second, rows, output, pool) {
+        return w;
+    }
+    if let Outcome::Left(w) = write_long(false, writer, first, second, rows, output, pool) {
+        return w;
+    }
+    write_longest(false, writer, first, second, rows, output, pool)
 }

@@ -14,8 +14,8 @@ enum-known-r c = search needs
 enum-told : tie.Need-enum-told
 enum-told c = search needs
 
-search-pool-requires : tie.Need-search-pool-requires
-search-pool-requires c κs = search needs
+search-requires : tie.Need-search-requires
+search-requires c κs = search needs
 
 enum-known-i : tie.Need-enum-known-i
 enum-known-i c = search needs
@@ -30,16 +30,16 @@ new-requires : tie.Need-new-requires
 new-requires c κs = search needs
 
 returns : tie.Need-returns
-returns c = name-faulty (c .before .before .before .before .before .before .before .args .output .now) (c .before .before .before .before .before .before .before .args .pool .now) (c .before .before .before .before .before .before .before .args .name .now) (c .before .before .before .before .before .before .before .args .kept) _ _ (sym (c .before .before .before .string-fault .ensures) ∙ ap faultOf (c .before .r .given .1))
+returns c = name-faulty (c .before .before .before .before .before .before .before .before .args .output .now) (c .before .before .before .before .before .before .before .before .args .pool .now) (c .before .before .before .before .before .before .before .before .args .name .now) (c .before .before .before .before .before .before .before .before .args .kept) _ _ (sym (c .before .before .before .string-fault .ensures) ∙ ap faultOf (c .before .r .given .1))
 
 returns-2 : tie.Need-returns-2
-returns-2 c = name-found (c .before .before .before .before .before .before .before .before .before .before .args .output .now) (c .before .before .before .before .before .before .before .before .before .before .args .pool .now) (c .before .before .before .before .before .before .before .before .before .before .args .name .now) (c .before .before .before .before .before .before .before .before .before .before .args .kept) (sym (c .before .before .before .before .before .before .string-fault .ensures) ∙ ap faultOf (c .before .before .before .before .enum-told .given .1)) _ (sym (c .before .before .before .search-pool .ensures) ∙ ap foundOf (c .before .i .given .1))
+returns-2 c = name-found (c .before .before .before .before .before .before .before .before .before .before .before .args .output .now) (c .before .before .before .before .before .before .before .before .before .before .before .args .pool .now) (c .before .before .before .before .before .before .before .before .before .before .before .args .name .now) (c .before .before .before .before .before .before .before .before .before .before .before .args .kept) (sym (c .before .before .before .before .before .before .string-fault .ensures) ∙ ap faultOf (c .before .before .before .before .enum-told .given .1)) _ (sym (c .before .before .before .search .ensures) ∙ ap foundOf (c .before .i .given .1))
 
 returns-3 : tie.Need-returns-3
-returns-3 c = name-found (c .before .before .before .before .before .before .before .before .before .args .output .now) (c .before .before .before .before .before .before .before .before .before .args .pool .now) (c .before .before .before .before .before .before .before .before .before .args .name .now) (c .before .before .before .before .before .before .before .before .before .args .kept) (sym (c .before .before .before .before .before .string-fault .ensures) ∙ ap faultOf (c .before .before .before .enum-told .given .1)) _ (sym (c .before .before .search-pool .ensures) ∙ ap foundOf (c .enum-told2 .given .1))
+returns-3 c = name-found (c .before .before .before .before .before .before .before .before .before .before .args .output .now) (c .before .before .before .before .before .before .before .before .before .before .args .pool .now) (c .before .before .before .before .before .before .before .before .before .before .args .name .now) (c .before .before .before .before .before .before .before .before .before .before .args .kept) (sym (c .before .before .before .before .before .string-fault .ensures) ∙ ap faultOf (c .before .before .before .enum-told .given .1)) _ (sym (c .before .before .search .ensures) ∙ ap foundOf (c .enum-told2 .given .1))
 
 returns-4 : tie.Need-returns-4
-returns-4 c = rw (c .new .ensures .0, c .new .ensures .1) (name-barred (c .before .before .before .before .before .before .before .before .before .before .args .output .now) (c .before .before .before .before .before .before .before .before .before .before .args .pool .now) (c .before .before .before .before .before .before .before .before .before .before .args .name .now) (c .before .before .before .before .before .before .before .before .before .before .args .kept) (sym (c .before .before .before .before .before .before .string-fault .ensures) ∙ ap faultOf (c .before .before .before .before .enum-told .given .1)) (sym (c .before .before .before .search-pool .ensures) ∙ ap foundOf (c .before .enum-told3 .given .1)))
+returns-4 c = rw (c .new .ensures .0, c .new .ensures .1) (name-barred (c .before .before .before .before .before .before .before .before .before .before .before .args .output .now) (c .before .before .before .before .before .before .before .before .before .before .before .args .pool .now) (c .before .before .before .before .before .before .before .before .before .before .before .args .name .now) (c .before .before .before .before .before .before .before .before .before .before .before .args .kept) (sym (c .before .before .before .before .before .before .string-fault .ensures) ∙ ap faultOf (c .before .before .before .before .enum-told .given .1)) (sym (c .before .before .before .search .ensures) ∙ ap foundOf (c .before .enum-told3 .given .1)))
 
 pub find-name-spec : {M : Type 1} → statement M
 find-name-spec =
@@ -48,7 +48,7 @@ find-name-spec =
     string-fault-requires
     enum-known-r
     enum-told
-    search-pool-requires
+    search-requires
     enum-known-i
     enum-told-2
     enum-told-3

@@ -22,7 +22,7 @@ slot-of-requires c κs = let a = c .before .before .before .before .before .befo
     let f = a .first .now in
     let s = a .second .now in
     let w = a .w .now in
-    (c .before .before .before .before .before .before .before .before .before .pre .1 .0 .some-slots, c .before .before .before .before .before .before .before .before .before .pre .1 .0 .few-slots, c .name-in .ensures .1)
+    (c .before .before .before .before .before .before .before .before .before .pre .1 .0 .some-slots, c .before .before .before .before .before .before .before .before .before .pre .1 .0 .few-slots)
 
 look-up-requires : tie.Need-look-up-requires
 look-up-requires c κs = let a = c .before .before .before .before .before .before .before .before .before .before .args in

@@ -19,23 +19,23 @@ name-in-requires : tie.Need-name-in-requires
 name-in-requires c κs = search needs
 
 slot-of-requires : tie.Need-slot-of-requires
-slot-of-requires c κs = let a = c .before .before .before .before .before .before .before .before .before .before .before .args in
-    let p = c .before .before .before .before .before .before .before .before .before .before .before .pre in
+slot-of-requires c κs = let a = c .before .before .before .before .before .before .before .before .before .before .before .before .args in
+    let p = c .before .before .before .before .before .before .before .before .before .before .before .before .pre .1 in
     let k = p .1 .1 .1 .1 in
     let f = a .first .now in
     let s = a .second .now in
     let w = a .w .now in
-    (p .1 .1 .1 .0 .some-slots, p .1 .1 .1 .0 .few-slots, c .name-in .ensures .1)
+    (p .1 .1 .1 .0 .some-slots, p .1 .1 .1 .0 .few-slots)
 
 slice-reshare-prefix-look-up : tie.Need-slice-reshare-prefix-look-up
 slice-reshare-prefix-look-up c = search needs
 
 slice-aggregate-look-up : tie.Need-slice-aggregate-look-up
-slice-aggregate-look-up c = sym (length-take-le (c .before .before .before .before .before .before .before .before .before .before .before .before .before .args .used) (c .before .before .before .before .before .before .before .before .before .before .before .before .before .args .notes .now) (c .before .before .before .before .before .before .before .before .before .before .before .before .before .pre .1 .1 .0 .in-use))
+slice-aggregate-look-up c = sym (length-take-le (c .before .before .before .before .before .before .before .before .before .before .before .before .before .before .args .used) (c .before .before .before .before .before .before .before .before .before .before .before .before .before .before .args .notes .now) (c .before .before .before .before .before .before .before .before .before .before .before .before .before .before .pre .1 .1 .1 .0))
 
 look-up-requires : tie.Need-look-up-requires
-look-up-requires c κs = let a = c .before .before .before .before .before .before .before .before .before .before .before .before .before .before .args in
-    let p = c .before .before .before .before .before .before .before .before .before .before .before .before .before .before .pre in
+look-up-requires c κs = let a = c .before .before .before .before .before .before .before .before .before .before .before .before .before .before .before .args in
+    let p = c .before .before .before .before .before .before .before .before .before .before .before .before .before .before .before .pre .1 in
     let k = p .1 .1 .1 .1 in
     let f = a .first .now in
     let s = a .second .now in
@@ -49,14 +49,14 @@ enum-told-2 : tie.Need-enum-told-2
 enum-told-2 c = search needs
 
 unnoted-size-requires : tie.Need-unnoted-size-requires
-unnoted-size-requires c κs = let a = c .before .before .before .before .before .before .before .before .before .before .before .before .before .before .before .before .before .before .before .args in
-    let p = c .before .before .before .before .before .before .before .before .before .before .before .before .before .before .before .before .before .before .before .pre in
+unnoted-size-requires c κs = let a = c .before .before .before .before .before .before .before .before .before .before .before .before .before .before .before .before .before .before .before .before .args in
+    let p = c .before .before .before .before .before .before .before .before .before .before .before .before .before .before .before .before .before .before .before .before .pre .1 in
     let k = p .1 .1 .1 .1 in
     let f = a .first .now in
     let s = a .second .now in
     let w = a .w .now in
     let unnoted = rw (c .before .before .enum-told2 .given .1) at (c .before .before .before .before .look-up .ensures) in
-    (p .0, (c .before .before .before .before .before .before .before .before .name-in .ensures .0, (p .1 .0, (p .1 .1 .0, ((c .before .before .before .before .before .before .before .slot-of .ensures, rw (c .before .before .before .before .before .before .before .slot-of .ensures) (slot-below (length (a .heads .now)) _ (p .1 .1 .1 .0 .some-slots))), (k, unnoted))))))
+    (c .before .before .before .before .before .before .before .before .before .before .before .before .before .before .before .before .before .before .before .before .pre .0, (p .0, (c .before .before .before .before .before .before .before .before .name-in .ensures .0, (p .1 .0, (p .1 .1 .0, ((c .before .before .before .before .before .before .before .slot-of .ensures, rw (c .before .before .before .before .before .before .before .slot-of .ensures) (slot-below (length (a .heads .now)) _ (p .1 .1 .1 .0 .some-slots))), (k, unnoted)))))))
 
 same-length : tie.Need-same-length
 same-length c = search needs
@@ -66,14 +66,14 @@ same-length-2 c = search needs
 
 returns : tie.Need-returns
 unfolding rowAt
-returns c = let a = c .before .before .before .before .before .before .before .before .before .before .before .before .before .before .before .before .before .args in
-    let p = c .before .before .before .before .before .before .before .before .before .before .before .before .before .before .before .before .before .pre in
+returns c = let a = c .before .before .before .before .before .before .before .before .before .before .before .before .before .before .before .before .before .before .args in
+    let p = c .before .before .before .before .before .before .before .before .before .before .before .before .before .before .before .before .before .before .pre .1 in
     let k = p .1 .1 .1 .1 in
     let f = a .first .now in
     let s = a .second .now in
     let w = a .w .now in
     let says = rw (c .enum-told .given .1) at (c .before .before .look-up .ensures) in
-    λ pool e t. says-noted f s (a .output .now) (a .pool .now) (a .kept) pool (rowAt f s w) _ (a .notes .now) (a .used) (sym (c .before .before .before .before .before .before .before .before .has-name .ensures) ∙ c .before .before .before .before .before .before .before .if1 .taken) (name-is f s w (a .names) (sym (c .before .before .before .before .before .before .before .before .has-name .ensures) ∙ c .before .before .before .before .before .before .before .if1 .taken) ∙ sym (c .before .before .before .before .before .before .name-in .ensures .0)) (a .heads .now) _ (a .names) e (p .1 .1 .0 .in-use) t says
+    λ pool e t. says-noted f s (a .output .now) (a .pool .now) (a .kept) pool (rowAt f s w) _ (a .notes .now) (a .used) (sym (c .before .before .before .before .before .before .before .before .has-name .ensures) ∙ c .before .before .before .before .before .before .before .if1 .taken) (name-is f s w (a .names) (sym (c .before .before .before .before .before .before .before .before .has-name .ensures) ∙ c .before .before .before .before .before .before .before .if1 .taken) ∙ sym (c .before .before .before .before .before .before .name-in .ensures .0)) (a .heads .now) _ (a .names) e (p .1 .1 .0) t says
 
 same-length-3 : tie.Need-same-length-3
 same-length-3 c = search needs
@@ -83,8 +83,8 @@ same-length-4 c = search needs
 
 returns-2 : tie.Need-returns-2
 unfolding rowAt
-returns-2 c = let a = c .before .before .before .before .before .before .before .before .before .before .before .before .before .before .before .before .before .before .before .before .before .before .before .before .args in
-    let p = c .before .before .before .before .before .before .before .before .before .before .before .before .before .before .before .before .before .before .before .before .before .before .before .before .pre in
+returns-2 c = let a = c .before .before .before .before .before .before .before .before .before .before .before .before .before .before .before .before .before .before .before .before .before .before .before .before .before .args in
+    let p = c .before .before .before .before .before .before .before .before .before .before .before .before .before .before .before .before .before .before .before .before .before .before .before .before .before .pre .1 in
     let k = p .1 .1 .1 .1 in
     let f = a .first .now in
     let s = a .second .now in
@@ -93,13 +93,13 @@ returns-2 c = let a = c .before .before .before .before .before .before .before 
 
 returns-3 : tie.Need-returns-3
 unfolding rowAt
-returns-3 c = let a = c .before .before .before .before .before .before .before .before .before .before .args in
-    let p = c .before .before .before .before .before .before .before .before .before .before .pre in
+returns-3 c = let a = c .before .before .before .before .before .before .before .before .before .before .before .args in
+    let p = c .before .before .before .before .before .before .before .before .before .before .before .pre .1 in
     let k = p .1 .1 .1 .1 in
     let f = a .first .now in
     let s = a .second .now in
     let w = a .w .now in
-    λ pool e t. says-bare f s (a .output .now) (a .pool .now) (a .kept) pool (rowAt f s w) (a .notes .now) (a .heads .now) (a .used) (a .names) (sym (c .before .has-name .ensures) ∙ c .if1 .left) e (p .1 .1 .0 .in-use) t
+    λ pool e t. says-bare f s (a .output .now) (a .pool .now) (a .kept) pool (rowAt f s w) (a .notes .now) (a .heads .now) (a .used) (a .names) (sym (c .before .has-name .ensures) ∙ c .if1 .left) e (p .1 .1 .0) t
 
 pub name-size-spec : {M : Type 1} → statement M
 name-size-spec =

@@ -1,10 +1,10 @@
+use borrow.Author.Needs.{needs}
+use Rattle.writer.proofs.note.Statement.{statement}
+use Rattle.writer.proofs.note.Tie as tie
 use mathlib.Core.Path.{refl}
 use lib.ListN.{length-set}
 use native.Mathlib.Numerals.{towards-suc}
 use native.Mathlib.Omega.{arith}
-use borrow.Author.Needs.{needs}
-use Rattle.writer.proofs.note.Statement.{statement}
-use Rattle.writer.proofs.note.Tie as tie
 
 shared-slice-read-notes : tie.Need-shared-slice-read-notes
 shared-slice-read-notes c = search needs
@@ -53,6 +53,9 @@ mul-notes-5 c = search needs
 
 slice-read-notes : tie.Need-slice-read-notes
 slice-read-notes c = search needs
+
+cast-notes : tie.Need-cast-notes
+cast-notes c = omega (arith, c .slice-known .given (c .before .before .before .before .args .slot))
 
 add-notes-4 : tie.Need-add-notes-4
 add-notes-4 c = search needs
@@ -104,6 +107,7 @@ note-spec =
     slice-write-notes-4
     mul-notes-5
     slice-read-notes
+    cast-notes
     add-notes-4
     mul-notes-6
     slice-write-notes-5

@@ -21,9 +21,9 @@ slice-reshare-prefix-recall c = search needs
 
 slice-aggregate-recall : tie.Need-slice-aggregate-recall
 slice-aggregate-recall c =
-    let a = c .before .before .before .before .before .before .before .before .before .before .before .before .args in
-    let p = c .before .before .before .before .before .before .before .before .before .before .before .before .pre in
-    sym (length-take-le (a .used) (a .notes .now) (p .1 .1 .0 .in-use))
+    let a = c .before .before .before .before .before .before .before .before .before .before .before .before .before .args in
+    let p = c .before .before .before .before .before .before .before .before .before .before .before .before .before .pre .1 in
+    sym (length-take-le (a .used) (a .notes .now) (p .1 .1 .0))
 
 recall-requires : tie.Need-recall-requires
 recall-requires c κs = search needs
@@ -40,14 +40,14 @@ same-length-2 c = search needs
 returns : tie.Need-returns
 unfolding rowAt
 returns c =
-    let a = c .before .before .before .before .before .before .before .before .before .before .before .before .before .before .before .before .args in
-    let p = c .before .before .before .before .before .before .before .before .before .before .before .before .before .before .before .before .pre in
+    let a = c .before .before .before .before .before .before .before .before .before .before .before .before .before .before .before .before .before .args in
+    let p = c .before .before .before .before .before .before .before .before .before .before .before .before .before .before .before .before .before .pre .1 in
     let f = a .first .now in
     let s = a .second .now in
     let w = a .w .now in
     let named = sym (c .before .before .before .before .before .before .has-name .ensures) ∙ c .before .before .before .before .before .if1 .taken in
     let says = recalled f s w (take (a .used) (a .notes .now)) _ (rw (c .enum-told .given .1) at (c .before .before .recall .ensures)) in
-    λ pool e t. says-noted f s (a .output .now) (a .pool .now) (a .kept) pool (rowAt f s w) _ (a .notes .now) (a .used) named (name-is f s w (a .names) named) (a .heads .now) _ (a .names) e (p .1 .1 .0 .in-use) t says
+    λ pool e t. says-noted f s (a .output .now) (a .pool .now) (a .kept) pool (rowAt f s w) _ (a .notes .now) (a .used) named (name-is f s w (a .names) named) (a .heads .now) _ (a .names) e (p .1 .1 .0) t says
 
 enum-told-2 : tie.Need-enum-told-2
 enum-told-2 c = search needs
@@ -57,18 +57,18 @@ shared-slice-read-remember c = search needs
 
 cast-remember : tie.Need-cast-remember
 cast-remember c =
-    let a = c .before .before .before .before .before .before .before .before .before .before .before .before .before .before .before .before .before .args in
-    let p = c .before .before .before .before .before .before .before .before .before .before .before .before .before .before .before .before .before .pre in
-    omega (arith, used-few (a .first .now) (a .second .now) (a .output .now) (a .pool .now) (a .kept) (p .1 .1 .1 .1 .0) (a .notes .now) (a .heads .now) (a .used) (p .1 .1 .0 .in-use) (p .1 .1 .1 .1 .2) (p .1 .1 .1 .1 .3))
+    let a = c .before .before .before .before .before .before .before .before .before .before .before .before .before .before .before .before .before .before .args in
+    let p = c .before .before .before .before .before .before .before .before .before .before .before .before .before .before .before .before .before .before .pre .1 in
+    omega (arith, used-few (a .first .now) (a .second .now) (a .output .now) (a .pool .now) (a .kept) (p .1 .1 .1 .1 .0) (a .notes .now) (a .heads .now) (a .used) (p .1 .1 .0) (p .1 .1 .1 .1 .2) (p .1 .1 .1 .1 .3))
 
 remember-requires : tie.Need-remember-requires
 remember-requires c κs = search needs
 
 name-size-requires : tie.Need-name-size-requires
 name-size-requires c κs =
-    let a = c .before .before .before .before .before .before .before .before .before .before .before .before .before .before .before .before .before .before .before .before .before .before .before .args in
-    let p = c .before .before .before .before .before .before .before .before .before .before .before .before .before .before .before .before .before .before .before .before .before .before .before .pre in
-    (p .0, (p .1 .0, (p .1 .1 .0, (p .1 .1 .1 .0 .0, p .1 .1 .1 .1))))
+    let a = c .before .before .before .before .before .before .before .before .before .before .before .before .before .before .before .before .before .before .before .before .before .before .before .before .args in
+    let p = c .before .before .before .before .before .before .before .before .before .before .before .before .before .before .before .before .before .before .before .before .before .before .before .before .pre .1 in
+    (c .before .before .before .before .before .before .before .before .before .before .before .before .before .before .before .before .before .before .before .before .before .before .before .before .pre .0, (p .0, (p .1 .0, (p .1 .1 .0, (p .1 .1 .1 .0 .0, p .1 .1 .1 .1)))))
 
 same-length-3 : tie.Need-same-length-3
 same-length-3 c = search needs
@@ -85,12 +85,12 @@ returns-2 c = search needs
 returns-3 : tie.Need-returns-3
 unfolding rowAt
 returns-3 c =
-    let a = c .before .before .before .before .before .before .before .before .before .before .before .args in
-    let p = c .before .before .before .before .before .before .before .before .before .before .before .pre in
+    let a = c .before .before .before .before .before .before .before .before .before .before .before .before .args in
+    let p = c .before .before .before .before .before .before .before .before .before .before .before .before .pre .1 in
     let f = a .first .now in
     let s = a .second .now in
     let w = a .w .now in
-    λ pool e t. says-bare f s (a .output .now) (a .pool .now) (a .kept) pool (rowAt f s w) (a .notes .now) (a .heads .now) (a .used) (a .names) (sym (c .before .has-name .ensures) ∙ c .if1 .left) e (p .1 .1 .0 .in-use) t
+    λ pool e t. says-bare f s (a .output .now) (a .pool .now) (a .kept) pool (rowAt f s w) (a .notes .now) (a .heads .now) (a .used) (a .names) (sym (c .before .has-name .ensures) ∙ c .if1 .left) e (p .1 .1 .0) t
 
 pub quick-name-size-spec : {M : Type 1} → statement M
 quick-name-size-spec =

@@ -1,11 +1,11 @@
+use borrow.Author.Needs.{needs}
+use Rattle.writer.proofs.recall.Statement.{statement}
+use Rattle.writer.proofs.recall.Tie as tie
 use Prim.Native.Nat.{_<_}
 use lib.ListN.{length, getD}
 use native.Mathlib.Omega.{arith}
 use mathlib.Core.Path.{refl}
 use Rattle.writer.proofs.Links.{slot-by-below}
-use borrow.Author.Needs.{needs}
-use Rattle.writer.proofs.recall.Statement.{statement}
-use Rattle.writer.proofs.recall.Tie as tie
 
 shared-slice-read-start : tie.Need-shared-slice-read-start
 shared-slice-read-start c = search needs
@@ -75,17 +75,17 @@ shared-slice-read-if4 c = search needs
 shared-slice-read-if4-2 : tie.Need-shared-slice-read-if4-2
 shared-slice-read-if4-2 c = search needs
 
-mul-t30 : tie.Need-mul-t30
-mul-t30 c = search needs
+mul-t31 : tie.Need-mul-t31
+mul-t31 c = search needs
 
-add-t31 : tie.Need-add-t31
-add-t31 c = search needs
+add-t32 : tie.Need-add-t32
+add-t32 c = search needs
 
-mul-t32 : tie.Need-mul-t32
-mul-t32 c = search needs
+mul-t33 : tie.Need-mul-t33
+mul-t33 c = search needs
 
-shared-slice-read-t34 : tie.Need-shared-slice-read-t34
-shared-slice-read-t34 c = search needs
+shared-slice-read-t35 : tie.Need-shared-slice-read-t35
+shared-slice-read-t35 c = search needs
 
 returns-2 : tie.Need-returns-2
 returns-2 c =
@@ -126,10 +126,10 @@ recall-spec =
     mul-if4-2
     shared-slice-read-if4
     shared-slice-read-if4-2
-    mul-t30
-    add-t31
-    mul-t32
-    shared-slice-read-t34
+    mul-t31
+    add-t32
+    mul-t33
+    shared-slice-read-t35
     returns-2
     returns-3
     returns-4

@@ -1,7 +1,6 @@
 use native.Mathlib.Omega.{arith}
 use mathlib.Core.Path.{_≡_, sym, _∙_}
 use Prim.Native.Nat.{_+_, _*_, _-_, _≤_}
-use native.Mathlib.Nat.{add-sub-cancel-left}
 use borrow.Author.Needs.{needs}
 use Rattle.writer.specs.Answers.{searched}
 use Rattle.writer.proofs.Searches.{left, left-all, left-end, left-bad, left-found, left-other}
@@ -29,46 +28,37 @@ shared-slice-read-start c = omega arith
 cast-start : tie.Need-cast-start Inv-loop μ-loop
 cast-start c = omega (arith, c .shared-slice-known4 .given (2 * c .before .before .loop .i))
 
-mul-end : tie.Need-mul-end Inv-loop μ-loop
-mul-end c = omega arith
+mul-len : tie.Need-mul-len Inv-loop μ-loop
+mul-len c = omega arith
 
-add-end : tie.Need-add-end Inv-loop μ-loop
-add-end c = omega arith
+add-len : tie.Need-add-len Inv-loop μ-loop
+add-len c = omega arith
 
-mul-end-2 : tie.Need-mul-end-2 Inv-loop μ-loop
-mul-end-2 c = omega arith
+mul-len-2 : tie.Need-mul-len-2 Inv-loop μ-loop
+mul-len-2 c = omega arith
 
-shared-slice-read-end : tie.Need-shared-slice-read-end Inv-loop μ-loop
-shared-slice-read-end c = omega arith
+shared-slice-read-len : tie.Need-shared-slice-read-len Inv-loop μ-loop
+shared-slice-read-len c = omega arith
 
-cast-end : tie.Need-cast-end Inv-loop μ-loop
-cast-end c = omega (arith, c .shared-slice-known5 .given (2 * c .before .before .before .loop .i + 1))
+cast-len : tie.Need-cast-len Inv-loop μ-loop
+cast-len c = omega (arith, c .shared-slice-known5 .given (2 * c .before .before .before .loop .i + 1))
 
-add-end-2 : tie.Need-add-end-2 Inv-loop μ-loop
-add-end-2 c = omega (arith, c .before .shared-slice-known4 .given (2 * c .before .before .before .loop .i), c .shared-slice-known5 .given (2 * c .before .before .before .loop .i + 1))
+add-if1 : tie.Need-add-if1 Inv-loop μ-loop
+add-if1 c = omega (arith, c .before .shared-slice-known4 .given (2 * c .before .before .before .loop .i), c .shared-slice-known5 .given (2 * c .before .before .before .loop .i + 1))
 
 returns : tie.Need-returns Inv-loop μ-loop
 returns c = let a = c .before .before .before .before .before .before .before .before .args in
     let l = c .before .before .before .before .loop in
     sym (left-bad (a .output .now) (a .name .now) (a .pool .now) (a .names) (l .i) (omega arith) (c .if1 .taken)) ∙ l .inv .1
 
-sub-same-bytes : tie.Need-sub-same-bytes Inv-loop μ-loop
-sub-same-bytes c = omega arith
-
-part-same-bytes-start : tie.Need-part-same-bytes-start Inv-loop μ-loop
-part-same-bytes-start c = search needs
-
-part-same-bytes-end : tie.Need-part-same-bytes-end Inv-loop μ-loop
-part-same-bytes-end c = search needs
-
-same-bytes-requires : tie.Need-same-bytes-requires Inv-loop μ-loop
-same-bytes-requires c κs = search needs
+spans-name-requires : tie.Need-spans-name-requires Inv-loop μ-loop
+spans-name-requires c κs = c .if1 .left
 
 returns-2 : tie.Need-returns-2 Inv-loop μ-loop
-returns-2 c = let a = c .before .before .before .before .before .before .before .before .before .before .before .args in
-    let l = c .before .before .before .before .before .before .before .loop in
-    let e = rw add-sub-cancel-left at (sym (c .before .same-bytes .ensures) ∙ c .if2 .taken) in
-    sym (left-found (a .output .now) (a .name .now) (a .pool .now) (a .names) (l .i) (omega arith) (c .before .before .before .if1 .left) e) ∙ l .inv .1
+returns-2 c = let a = c .before .before .before .before .before .before .before .before .before .before .args in
+    let l = c .before .before .before .before .before .before .loop in
+    let e = sym (c .before .spans-name .ensures) ∙ c .if2 .taken in
+    sym (left-found (a .output .now) (a .name .now) (a .pool .now) (a .names) (l .i) (omega arith) (c .before .before .if1 .left) e) ∙ l .inv .1
 
 add-i : tie.Need-add-i Inv-loop μ-loop
 add-i c = omega arith
@@ -77,10 +67,10 @@ loop-less : tie.Need-loop-less Inv-loop μ-loop
 loop-less c = omega arith
 
 loop-again : tie.Need-loop-again Inv-loop μ-loop
-loop-again c = let a = c .before .before .before .before .before .before .before .before .before .before .before .args in
-    let l = c .before .before .before .before .before .before .before .loop in
-    let e = rw add-sub-cancel-left at (sym (c .before .same-bytes .ensures) ∙ c .if2 .left) in
-    (omega arith, sym (left-other (a .output .now) (a .name .now) (a .pool .now) (a .names) (l .i) (omega arith) (c .before .before .before .if1 .left) e) ∙ l .inv .1)
+loop-again c = let a = c .before .before .before .before .before .before .before .before .before .before .args in
+    let l = c .before .before .before .before .before .before .loop in
+    let e = sym (c .before .spans-name .ensures) ∙ c .if2 .left in
+    (omega arith, sym (left-other (a .output .now) (a .name .now) (a .pool .now) (a .names) (l .i) (omega arith) (c .before .before .if1 .left) e) ∙ l .inv .1)
 
 returns-3 : tie.Need-returns-3 Inv-loop μ-loop
 returns-3 c = let a = c .before .before .before .before .before .args in
@@ -98,17 +88,14 @@ search-pool-spec =
     mul-start-2
     shared-slice-read-start
     cast-start
-    mul-end
-    add-end
-    mul-end-2
-    shared-slice-read-end
-    cast-end
-    add-end-2
+    mul-len
+    add-len
+    mul-len-2
+    shared-slice-read-len
+    cast-len
+    add-if1
     returns
-    sub-same-bytes
-    part-same-bytes-start
-    part-same-bytes-end
-    same-bytes-requires
+    spans-name-requires
     returns-2
     add-i
     loop-less
