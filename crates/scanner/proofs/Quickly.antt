@@ -1,7 +1,7 @@
 -- An event that the quick way took, its words put to the rows, and the step's answer then.
 use mathlib.Core.Bool.{Bool, false, cond}
 use mathlib.Core.List.{List, [], _++_}
-use mathlib.Core.Path.{_≡_, sym, ap, _∙_}
+use mathlib.Core.Path.{_≡_, refl, sym, ap, _∙_}
 use Prim.Native.Nat.{ℕ, _+_, _*_, _/_, _≤_, _<_}
 use native.Mathlib.Omega.{arith}
 use borrow.Author.Tests.{le-ltb}
@@ -13,8 +13,8 @@ use Rattle.grammar.specs.Said.{words-length}
 use Rattle.grammar.specs.Scan.{sound, adds, lengths, pairs, copiedPairs, joined, count, words, Outcome}
 use Rattle.scanner.specs.declared.quick.Taken.{Taken}
 use Rattle.scanner.specs.Quick.{ReadEvent}
-use Rattle.scanner.specs.Step.{gives, Left, written, handOut, byOutcome, step, tooLong, outside, Quickly, declined, taken, readBy}
-use Rattle.scanner.proofs.Stepping.{not-outside, step-read}
+use Rattle.scanner.specs.Step.{gives, Left, written, handOut, byOutcome, step, tooLong, outside, Quickly, declined, taken, SteppedQuickly}
+use Rattle.scanner.proofs.Stepping.{not-outside}
 
 module _ (is : Items) (names source base : ℕ) (table ws ws₁ : List ℕ) (t : Taken) (r : ReadEvent is names source base table ws ws₁ t) (l : length ws ≡ 80) where
   abbrev its : List ℕ
@@ -43,11 +43,6 @@ module _ (s : List ℕ) (base : ℕ) (finished copied : Bool) (names used : ℕ)
   abbrev Quick : Type 0
   Quick = Quickly is names (cond copied 1 0) base table rows rows₁ t
 
-  -- nothing was taken
-  pub not-taken : Quick → t .len ≡ 0 → rows₁ ≡ rows
-  not-taken (declined a b) e = b
-  not-taken (taken h a b c d f) e = absurd (omega arith)
-
   module _ (e : tooLong base (length s) copied (length store) ≡ false) (f : outside (length table) names copied used (length store) ≡ false)
       (g : stored ≡ cond copied (length store) (base + length s)) where
     abbrev by : Outcome → Left
@@ -70,8 +65,25 @@ module _ (s : List ℕ) (base : ℕ) (finished copied : Bool) (names used : ℕ)
     taken-is (taken h a b c d q) n =
         complete-is (adds names is) d b c q ∙ ap by (sym (a finished)) ∙ rw (e, f, ← g)
 
-    pub declined-is : Quick → t .len ≡ 0 → (x : Left) → x ≡ readBy finished copied base (record { kept = names; stored = stored; names = names }) used s table store rows₁
-        → x ≡ step s base finished copied names used table store rows
-    declined-is k n x y =
-        step-read s base finished copied names used table store rows e f stored g x
-        (y ∙ ap (λ (w : List ℕ). readBy finished copied base (record { kept = names; stored = stored; names = names }) used s table store w) (not-taken k n))
+-- ---- an end tag, whose row is put where it belongs
+
+pub row-taken : (is : Items) (names source base : ℕ) (table rows rows₁ : List ℕ) (t : Taken) → ReadEvent is names source base table rows rows₁ t → 0 < t .len → t .rows ≤ length rows / 8
+    → Quickly is names source base table rows rows₁ t
+row-taken is names source base table rows rows₁ t r h k = taken h (r .ends) (r .counted) k (r .none-new) (r .stored)
+
+-- ---- the quick way of a step
+
+pub passed-over : (s : List ℕ) (base : ℕ) (copied : Bool) (names used : ℕ) (table store rows : List ℕ)
+    → SteppedQuickly s base copied names used table store rows rows (record { rows = 0; len = 0 })
+passed-over s base copied names used table store rows = record { declines = λ e. refl; steps = λ h finished. absurd (omega (arith, h)) }
+
+module _ (s : List ℕ) (base : ℕ) (copied : Bool) (names used : ℕ) (table store rows rows₁ : List ℕ) (t : Taken) where
+  pub steps-quickly : tooLong base (length s) copied (length store) ≡ false → outside (length table) names copied used (length store) ≡ false
+      → (stored : ℕ) → stored ≡ cond copied (length store) (base + length s)
+      → Quickly (event (sound names table stored) names s) names (cond copied 1 0) base table rows rows₁ t → SteppedQuickly s base copied names used table store rows rows₁ t
+  steps-quickly e f stored g (declined x y) = record { declines = λ z. y; steps = λ h finished. absurd (omega (arith, h, x)) }
+  steps-quickly e f stored g (taken h x y z w v) =
+      record {
+        declines = λ k. absurd (omega (arith, h, k));
+        steps = λ k finished. taken-is s base finished copied names used table store rows rows₁ stored t e f g (taken h x y z w v) (λ n. omega (arith, h, n));
+      }

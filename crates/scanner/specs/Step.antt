@@ -1,5 +1,5 @@
 -- One event: read and, where there is room, written. The slice reader and the chunk reader share this step.
-use mathlib.Core.Bool.{Bool, true, _||_, _&&_, cond}
+use mathlib.Core.Bool.{Bool, true, false, _||_, _&&_, cond}
 use mathlib.Core.List.{List, []}
 use mathlib.Core.Path.{_≡_}
 use Prim.Native.Nat.{ℕ, _+_, _*_, _/_, _≤_, _<_}
@@ -29,7 +29,7 @@ pub record Left : Type 0 where
   pub rows : List ℕ
 
 abbrev pub replyOf : Stepped → Reply
-replyOf (Stepped.Event bytes rows len added) = gives rows len added bytes
+replyOf (Stepped.Event spare bytes rows len added) = gives rows len added bytes
 replyOf Stepped.Incomplete = needMore
 replyOf (Stepped.Refused r) = refused (r .number) (r .detail)
 
@@ -99,3 +99,9 @@ pub data Quickly (is : Items) (names source base : ℕ) (table rows rows′ : Li
   declined : t .len ≡ 0 → rows′ ≡ rows → Quickly is names source base table rows rows′ t
   taken : 0 < t .len → ((finished : Bool) → outcome finished is ≡ complete (t .len)) → count is ≡ t .rows → t .rows ≤ length rows / 8 → adds names is ≡ []
       → rows′ ≡ sets rows 0 (words source base table is) → Quickly is names source base table rows rows′ t
+
+-- the same of a step: nothing was written, or what the step gives, whether more bytes come or not
+pub record SteppedQuickly (s : List ℕ) (base : ℕ) (copied : Bool) (names used : ℕ) (table store rows rows′ : List ℕ) (t : Taken) : Type 0 where
+  pub declines : t .len ≡ 0 → rows′ ≡ rows
+  pub steps : 0 < t .len → (finished : Bool)
+      → record { reply = gives (t .rows) (t .len) 0 0; table = table; store = store; rows = rows′ } ≡ step s base finished copied names used table store rows

@@ -1,7 +1,7 @@
 // The scanner of both readers: readers of one event's fields, rows and attributes; a first pass over an event, which measures; a
 // second, which writes; and the step made of both. Module quick reads common events in one pass, module select takes the rows of an
 // event that a query asks for. A place is counted from the event's first byte, where the slice starts.
-mod quick;
+pub mod quick;
 pub mod select;
 
 use event::Shape;
@@ -18,13 +18,13 @@ ghost use mathlib.Core.List.{[], _∷_, _++_};
 ghost use lib.ListN.{length, getD, take, drop};
 ghost use lib.Seq.{sets};
 ghost use Rattle.wire.specs.Limits.{maxStore};
-ghost use Rattle.wire.specs.Token.{builtIn};
+ghost use Rattle.wire.specs.Token.{builtIn, command, endTag};
 ghost use Rattle.grammar.specs.Grammar.{u16, u32, u64, string, blob, name, value, attribute, first, most, countedName, countedValue, lacks, whole, new, after, attributesF, event};
 ghost use Rattle.grammar.specs.Document.{typeOf};
 ghost use Rattle.grammar.specs.Scan.{sound, outcome, measure, addsRef, addsName, addsValue, addsItem, adds, lengths, pairs, nameWords, valueWords, itemWords, words};
 ghost use Rattle.scanner.specs.Tally.{Small, NameSmall, ValueSmall, ItemSmall, Bounded, Joins, Counts, plus, outcomeOf, measuredOf};
 ghost use Rattle.scanner.specs.Keep.{There, Copyable, Copied, NamePlaced, ValuePlaced, ItemPlaced, NameRoom, ValueRoom, PoolAfter, Keepable, Writable, wordsOf, moved, carried, Movable};
-ghost use Rattle.scanner.specs.Step.{Quickly, Ready, readBy, stepOf, step, tooLong, outside};
+ghost use Rattle.scanner.specs.Step.{Quickly, SteppedQuickly, Ready, readBy, stepOf, step, tooLong, outside};
 ghost use Rattle.scanner.specs.Answers.{numberOf, textOf, nameOf, newName, valueReadOf, asText, asInterned, asWord, asPair, valueOf, itemOf, poolGrown, referenceOf, asAttribute, asTag, asTextRow, itemReadOf, Trusted};
 
 // ---- fields
@@ -1051,9 +1051,11 @@ fn write(
 
 // ---- one event
 
-// The bytes come first: the compiler copies what stands there in two parts, for which a read right after it waits (docs/BENCHMARKS.md).
+// The spare words of an event lie where a refusal's numbers do, so that the compiler copies no word of it in two parts, for which
+// a read right after it would wait (docs/BENCHMARKS.md).
 pub enum Stepped {
     Event {
+        spare: Refusal,
         bytes: usize,
         rows: usize,
         len: usize,
@@ -1138,6 +1140,10 @@ fn read(
                 }
                 write_copied(s, base, tokens, table, pool, m.added, store, used, rows);
                 return Stepped::Event {
+                    spare: Refusal {
+                        number: 0,
+                        detail: 0,
+                    },
                     rows: m.rows,
                     len,
                     added: m.added,
@@ -1146,6 +1152,10 @@ fn read(
             }
             write_there(s, base, tokens, table, pool, rows);
             Stepped::Event {
+                spare: Refusal {
+                    number: 0,
+                    detail: 0,
+                },
                 rows: m.rows,
                 len,
                 added: m.added,
@@ -1201,6 +1211,43 @@ fn put_rows(rows: &mut [u32], words: &[u32], count: usize)
     }
 }
 
+// An end tag whose name is known: its row needs no array. A length of 0: it was not, and nothing is written.
+fn end_quickly(
+    s: &[u8],
+    base: usize,
+    copied: bool,
+    table: &[u32],
+    pool: Pool,
+    rows: &mut [u32],
+) -> Taken
+    requires { ⌜ 3 ≤ length (now s) ⌝ }
+    requires { ⌜ 2 * pool .kept ≤ length (now table) ⌝ }
+    requires { ⌜ pool .kept ≡ pool .names ⌝ }
+    requires { ⌜ command (getD (now s) 0 0) ≡ endTag ⌝ }
+    ensures { λ r. ⌜ Quickly (event (sound (pool .kept) (now (table .entry)) (pool .stored)) (pool .names) (now (s .entry))) (pool .names) (cond copied 1 0) base (now (table .entry)) (now (rows .entry)) (now (rows .exit)) r ⌝ }
+{
+    let no = Taken { rows: 0, len: 0 };
+    if rows.len() < 8 {
+        return no;
+    }
+    let name = quick::known(s, 1, quick::pooled(copied), table, pool);
+    if name.next == 0 {
+        return no;
+    }
+    let words = Words {
+        source: name.source,
+        a: name.a,
+        b: name.b,
+    };
+    let none = Words {
+        source: 0,
+        a: 0,
+        b: 0,
+    };
+    put_row(rows, 0, Command::END_TAG, words, 0, none);
+    Taken { rows: 1, len: 3 }
+}
+
 // The event that stands in s, read and written in one pass where it is one of the commonest and there is room for its rows. A
 // length of 0: it was not, and nothing is written.
 fn read_quickly(
@@ -1217,6 +1264,16 @@ fn read_quickly(
     ensures { λ r. ⌜ Quickly (event (sound (pool .kept) (now (table .entry)) (pool .stored)) (pool .names) (now (s .entry))) (pool .names) (cond copied 1 0) base (now (table .entry)) (now (rows .entry)) (now (rows .exit)) r ⌝ }
 {
     let no = Taken { rows: 0, len: 0 };
+    if s.len() < 3 {
+        return no;
+    }
+    let kind = (s[0] % 16) as u32;
+    if kind == Command::END_TAG {
+        return end_quickly(s, base, copied, table, pool, rows);
+    }
+    if kind != Command::START_TAG {
+        return no;
+    }
     let mut words = [0u32; 80];
     let taken = quick::quick(s, base, copied, table, pool, &mut words);
     if taken.len == 0 {
@@ -1267,10 +1324,35 @@ fn stored_in(copied: bool, store: usize, end: usize) -> usize
     end
 }
 
-// The event that stands in s, read and, where there is room, written. s lies in its store from base on. Where names are
-// copied, they go to the name store, of which so many bytes are used; else they stay in the store of s, and the name store is
-// not looked at.
-pub fn step(
+// The step below, the quick way. A length of 0: it declined, and nothing is written.
+pub fn step_quickly(
+    s: &[u8],
+    base: usize,
+    copied: bool,
+    names: usize,
+    used: usize,
+    table: &[u32],
+    store: &[u8],
+    rows: &mut [u32],
+) -> Taken
+    ensures { λ r. ⌜ SteppedQuickly (now (s .entry)) base copied names used (now (table .entry)) (now (store .entry)) (now (rows .entry)) (now (rows .exit)) r ⌝ }
+{
+    if is_too_long(base, s.len(), copied, store.len()) {
+        return Taken { rows: 0, len: 0 };
+    }
+    if is_outside(table.len(), names, copied, used, store.len()) {
+        return Taken { rows: 0, len: 0 };
+    }
+    let pool = Pool {
+        kept: names,
+        stored: stored_in(copied, store.len(), base + s.len()),
+        names,
+    };
+    read_quickly(s, base, copied, table, pool, rows)
+}
+
+// The step below by the two passes alone.
+pub fn step_read(
     s: &[u8],
     base: usize,
     finished: bool,
@@ -1294,15 +1376,6 @@ pub fn step(
         stored: stored_in(copied, store.len(), base + s.len()),
         names,
     };
-    let taken = read_quickly(s, base, copied, table, pool, rows);
-    if taken.len != 0 {
-        return Stepped::Event {
-            rows: taken.rows,
-            len: taken.len,
-            added: 0,
-            bytes: 0,
-        };
-    }
     let tokens = wire::tokens::built_in();
     read(
         s,
@@ -1316,4 +1389,36 @@ pub fn step(
         store,
         rows,
     )
+}
+
+// The event that stands in s, read and, where there is room, written. s lies in its store from base on. Where names are
+// copied, they go to the name store, of which so many bytes are used; else they stay in the store of s, and the name store is
+// not looked at.
+pub fn step(
+    s: &[u8],
+    base: usize,
+    finished: bool,
+    copied: bool,
+    names: usize,
+    used: usize,
+    table: &mut [u32],
+    store: &mut [u8],
+    rows: &mut [u32],
+) -> Stepped
+    ensures { λ r. ⌜ stepOf (now (table .exit)) (now (store .exit)) (now (rows .exit)) r ≡ step (now (s .entry)) base finished copied names used (now (table .entry)) (now (store .entry)) (now (rows .entry)) ⌝ }
+{
+    let taken = step_quickly(s, base, copied, names, used, table, store, rows);
+    if taken.len == 0 {
+        return step_read(s, base, finished, copied, names, used, table, store, rows);
+    }
+    Stepped::Event {
+        spare: Refusal {
+            number: 0,
+            detail: 0,
+        },
+        rows: taken.rows,
+        len: taken.len,
+        added: 0,
+        bytes: 0,
+    }
 }

@@ -8,10 +8,11 @@ ghost use mathlib.Core.Bool.{cond};
 ghost use mathlib.Core.List.{_∷_, _++_};
 ghost use mathlib.Core.Path.{_≡_};
 ghost use Prim.Native.Nat.{_+_, _*_, _≤_, _<_};
-ghost use lib.ListN.{length};
+ghost use lib.ListN.{length, getD};
 ghost use lib.Seq.{sets};
 ghost use Rattle.grammar.specs.Reader.{got};
 ghost use Rattle.wire.specs.Header.{u32At};
+ghost use Rattle.wire.specs.Token.{command, startTag};
 ghost use Rattle.wire.specs.Limits.{maxStore, maxUnsignedShort};
 ghost use Rattle.grammar.specs.Grammar.{u16, blob, string, attributesF, event};
 ghost use Rattle.grammar.specs.Scan.{sound};
@@ -58,7 +59,7 @@ fn word(s: &[u8], at: usize) -> u32
 }
 
 // A name by index, whose words have this source.
-fn known(s: &[u8], at: usize, source: u32, table: &[u32], pool: Pool) -> Flat
+pub(crate) fn known(s: &[u8], at: usize, source: u32, table: &[u32], pool: Pool) -> Flat
     requires { ⌜ at + 2 ≤ length (now s) ⌝ }
     requires { ⌜ 2 * pool .kept ≤ length (now table) ⌝ }
     requires { ⌜ pool .kept ≡ pool .names ⌝ }
@@ -270,7 +271,7 @@ fn rest(
 }
 
 // The source of a name by index, whether names are copied to a store of their own or not.
-fn pooled(copied: bool) -> u32
+pub(crate) fn pooled(copied: bool) -> u32
     ensures { λ r. ⌜ r ≡ cond copied 1 0 ⌝ }
 {
     if copied {
@@ -279,7 +280,7 @@ fn pooled(copied: bool) -> u32
     0
 }
 
-// The event that stands in s, and its rows' words, where it is one of the commonest: complete, of up to ten rows, and with no
+// The start tag that stands in s, and its rows' words, where it is one of the commonest: complete, of up to ten rows, and with no
 // new name.
 pub(crate) fn quick(
     s: &[u8],
@@ -289,26 +290,16 @@ pub(crate) fn quick(
     pool: Pool,
     words: &mut [u32; 80],
 ) -> Taken
-    requires { ⌜ base + length (now s) ≤ maxStore ⌝ }
+    requires { ⌜ (3 ≤ length (now s)) × (base + length (now s) ≤ maxStore) ⌝ }
     requires { ⌜ 2 * pool .kept ≤ length (now table) ⌝ }
     requires { ⌜ pool .kept ≡ pool .names ⌝ }
+    requires { ⌜ command (getD (now s) 0 0) ≡ startTag ⌝ }
     ensures { λ r. ⌜ (0 < r .len → ReadEvent (event (sound (pool .kept) (now (table .entry)) (pool .stored)) (pool .names) (now (s .entry))) (pool .names) (cond copied 1 0) base (now (table .entry)) (now (words .entry)) (now (words .exit)) r) ⌝ }
 {
-    let no = Taken { rows: 0, len: 0 };
-    if s.len() < 3 {
-        return no;
-    }
-    let kind = (s[0] % 16) as u32;
-    if kind < Command::START_TAG {
-        return no;
-    }
-    if Command::END_TAG < kind {
-        return no;
-    }
     let source = pooled(copied);
     let name = known(s, 1, source, table, pool);
     if name.next == 0 {
-        return no;
+        return Taken { rows: 0, len: 0 };
     }
     let bare = Flat {
         source: 0,
@@ -316,9 +307,6 @@ pub(crate) fn quick(
         b: 0,
         next: 0,
     };
-    put(words, 0, kind, name, 0, bare);
-    if kind == Command::END_TAG {
-        return Taken { rows: 1, len: 3 };
-    }
+    put(words, 0, Command::START_TAG, name, 0, bare);
     rest(s, 3, base, source, table, pool, words)
 }

@@ -2,7 +2,7 @@
 use mathlib.Core.Bool.{true, false}
 use mathlib.Core.List.{List, []}
 use mathlib.Core.Path.{_≡_, refl, sym, ap, _∙_}
-use Prim.Native.Nat.{ℕ, _+_, _*_, _-_, _/_, _≤_}
+use Prim.Native.Nat.{ℕ, _+_, _*_, _-_, _/_, _≤_, _<_}
 use native.Mathlib.Omega.{arith}
 use borrow.Author.Tests.{le-ltb, ltb-false, eq-eqb, ne-eqb}
 use lib.Dec.{ltb}
@@ -14,7 +14,8 @@ use Rattle.grammar.specs.Outcomes.{ends-within}
 use Rattle.grammar.specs.Scan.{sound, adds, count, Outcome, complete, incomplete, bad, outcome}
 use Rattle.grammar.specs.Choice.{byTest}
 use Rattle.scanner.specs.Step as Scanned
-use Rattle.scanner.specs.Step.{step, tooLong, outside}
+use Rattle.scanner.specs.Step.{step, tooLong, outside, SteppedQuickly}
+use Rattle.scanner.specs.declared.quick.Taken.{Taken}
 use Rattle.slice_spec.specs.Slice.{Place, Left, Answer, gives, end, unchanged, sizesBad, placeBad, itemsAt, given, handOut, byOutcome, nextFrom, next, placeAfter, tableAfter}
 use Rattle.slice_spec.specs.Bounds.{Fits}
 
@@ -109,3 +110,21 @@ module _ (p : Place) (document table rows : List ℕ) where
       pub sums : (n len added bytes : ℕ) (t b w : List ℕ) → stepped ≡ record { reply = Scanned.gives n len added bytes; table = t; store = b; rows = w }
           → (p .at + len ≤ length document) × (2 * (p .names + added) ≤ length table)
       sums n len added bytes t b w e = sums-by n len added bytes (outcome true items) refl (ap (λ (x : Scanned.Left). x .reply) (sym stepped-is ∙ e))
+
+-- ---- the quick way
+
+module _ (p : Place) (document table rows rows₁ : List ℕ) (t : Taken) (f : Fits p document table)
+    (q : SteppedQuickly (take (length document - p .at) (drop (p .at) document)) (p .at) false (p .names) 0 table document rows rows₁ t) (h : 0 < t .len) where
+  abbrev took : Scanned.Left
+  took = record { reply = Scanned.gives (t .rows) (t .len) 0 0; table = table; store = document; rows = rows₁ }
+
+  abbrev past : ℕ → Left
+  past names = record { answer = gives (t .rows); place = record { at = p .at + t .len; names = names }; table = table; rows = rows₁ }
+
+  pub quick-sums : p .at + t .len ≤ length document
+  quick-sums = sums p document table rows document f (t .rows) (t .len) 0 0 table document rows₁ (sym (q .steps h true)) .0
+
+  pub quick-goes : past (p .names) ≡ nextFrom p document table rows
+  quick-goes =
+      let z : p .names ≡ p .names + 0 = omega arith in
+      ap past z ∙ goes p document table rows document f took (sym (q .steps h true)) (λ e. omega (arith, quick-sums, h, e))

@@ -40,8 +40,8 @@ pub fn create(document: &[u8], pool: &[u32]) -> Created
     }
 }
 
-// The event at a place that lies in the document. Its new names stay where they are, so there is no name store.
-fn next_from(place: Place, document: &[u8], pool: &mut [u32], rows: &mut [u32]) -> Next
+// The event at a place that lies in the document, by the two passes. Its new names stay where they are, so there is no name store.
+fn next_read(place: Place, document: &[u8], pool: &mut [u32], rows: &mut [u32]) -> Next
     requires { ⌜ Fits (placeOf place) (now document) (now pool) ⌝ }
     ensures { λ r. ⌜ nextOf place (now (pool .exit)) (now (rows .exit)) r ≡ nextFrom (placeOf place) (now (document .entry)) (now (pool .entry)) (now (rows .entry)) ⌝ }
 {
@@ -51,7 +51,7 @@ fn next_from(place: Place, document: &[u8], pool: &mut [u32], rows: &mut [u32]) 
         return Next::End;
     }
     let mut store = [0u8; 1];
-    match scanner::step(
+    match scanner::step_read(
         &document[at..],
         at,
         true,
@@ -67,6 +67,7 @@ fn next_from(place: Place, document: &[u8], pool: &mut [u32], rows: &mut [u32]) 
             len,
             added,
             bytes: _,
+            spare: _,
         } => Next::Event {
             rows: count,
             place: Place {
@@ -77,6 +78,26 @@ fn next_from(place: Place, document: &[u8], pool: &mut [u32], rows: &mut [u32]) 
         Stepped::Incomplete => Next::End,
         Stepped::Refused(r) => Next::Refused(r),
     }
+}
+
+// The same, the quick way first: most events take it.
+fn next_from(place: Place, document: &[u8], pool: &mut [u32], rows: &mut [u32]) -> Next
+    requires { ⌜ Fits (placeOf place) (now document) (now pool) ⌝ }
+    ensures { λ r. ⌜ nextOf place (now (pool .exit)) (now (rows .exit)) r ≡ nextFrom (placeOf place) (now (document .entry)) (now (pool .entry)) (now (rows .entry)) ⌝ }
+{
+    let at = place.at;
+    let names = place.names;
+    let taken = scanner::step_quickly(&document[at..], at, false, names, 0, pool, document, rows);
+    if taken.len != 0 {
+        return Next::Event {
+            rows: taken.rows,
+            place: Place {
+                at: at + taken.len,
+                names,
+            },
+        };
+    }
+    next_read(place, document, pool, rows)
 }
 
 // The next event, its rows written from the first word on and its new names to the pool; or the end.

@@ -10,6 +10,7 @@ use lib.ListN.{length, take, drop}
 use lib.Seq.{slice, length-slice}
 use Rattle.wire.specs.Refusal.{windowFull}
 use Rattle.wire.specs.Limits.{maxStore}
+use Rattle.wire.specs.declared.Refusal.{Refusal}
 use Rattle.grammar.specs.Grammar.{Items, event}
 use Rattle.grammar.specs.Laws.{agree-event}
 use Rattle.grammar.specs.Outcomes.{ends-within}
@@ -129,8 +130,8 @@ module _ (r : Stream) (l : Lent) (from : ℕ) where
       sums-by n len added bytes incomplete q p = let z : _≡_ {A = ℕ} 0 1 = cc p in absurd (omega arith)
       sums-by n len added bytes (bad k d) q p = let z : _≡_ {A = ℕ} 0 1 = cc p in absurd (omega arith)
 
-      pub sums : (t b w : List ℕ) (x : Stepped) (n len added bytes : ℕ) → stepOf t b w x ≡ stepped → x ≡ Stepped.Event bytes n len added
+      pub sums : (t b w : List ℕ) (x : Stepped) (y : Refusal) (n len added bytes : ℕ) → stepOf t b w x ≡ stepped → x ≡ Stepped.Event y bytes n len added
           → Sums r from len added bytes
-      sums t b w x n len added bytes e d =
+      sums t b w x y n len added bytes e d =
           sums-by n len added bytes (outcome (r .finished) items) refl
           (ap (λ (q : Scanned.Left). q .reply) (sym (e ∙ stepped-is) ∙ ap (stepOf t b w) d))

@@ -294,6 +294,7 @@ fn next_from(
             len,
             added,
             bytes: more,
+            spare: _,
         } => Answer::Event {
             rows,
             stream: advanced(stream, from, len, added, more),

@@ -1,46 +1,17 @@
-use mathlib.Core.Path.{refl, sym, _∙_}
-use Rattle.scanner.proofs.Quickly.{taken-is, declined-is}
-use Rattle.scanner.proofs.Stepping.{step-long, step-outside, step-ready, not-long, not-outside}
+use mathlib.Core.List.{List}
+use mathlib.Core.Path.{ap, _∙_}
+use Prim.Native.Nat.{ℕ}
+use native.Mathlib.Omega.{arith}
+use Rattle.scanner.specs.Step.{step}
 use borrow.Author.Needs.{needs}
 use Rattle.scanner.proofs.step.Statement.{statement}
 use Rattle.scanner.proofs.step.Tie as tie
-use native.Mathlib.Omega.{arith}
-use lib.ListN.{length}
 
-is-too-long-requires : tie.Need-is-too-long-requires
-is-too-long-requires c κs = search needs
+step-quickly-requires : tie.Need-step-quickly-requires
+step-quickly-requires c κs = search needs
 
-new-requires : tie.Need-new-requires
-new-requires c κs = search needs
-
-returns : tie.Need-returns
-returns c =
-    let a = c .before .before .before .before .before .before .before .args in
-    step-long (a .s .now) (a .base) (a .finished) (a .copied) (a .names) (a .used) (a .table .now) (a .store .now) (a .rows .now) _ _ (sym (c .before .before .is-too-long .ensures) ∙ c .before .if1 .taken) (c .new .ensures .0) (c .new .ensures .1)
-
-is-outside-requires : tie.Need-is-outside-requires
-is-outside-requires c κs = search needs
-
-new-requires-2 : tie.Need-new-requires-2
-new-requires-2 c κs = search needs
-
-returns-2 : tie.Need-returns-2
-returns-2 c =
-    let a = c .before .before .before .before .before .before .before .before .before .args in
-    step-outside (a .s .now) (a .base) (a .finished) (a .copied) (a .names) (a .used) (a .table .now) (a .store .now) (a .rows .now) (sym (c .before .before .before .before .is-too-long .ensures) ∙ c .before .before .before .if1 .left) _ _ (sym (c .before .before .is-outside .ensures) ∙ c .before .if2 .taken) (c .new2 .ensures .0) (c .new2 .ensures .1)
-
-add-stored-in : tie.Need-add-stored-in
-add-stored-in c =
-    let a = c .before .before .before .before .before .before .before .before .args in
-    omega (arith, not-long (a .base) (length (a .s .now)) (a .copied) (length (a .store .now)) (sym (c .before .before .before .is-too-long .ensures) ∙ c .before .before .if1 .left) .0)
-
-stored-in-requires : tie.Need-stored-in-requires
-stored-in-requires c κs = search needs
-
-read-quickly-requires : tie.Need-read-quickly-requires
-read-quickly-requires c κs =
-    let a = c .before .before .before .before .before .before .before .before .before .before .before .args in
-    (not-long (a .base) (length (a .s .now)) (a .copied) (length (a .store .now)) (sym (c .before .before .before .before .before .before .is-too-long .ensures) ∙ c .before .before .before .before .before .if1 .left) .0, (not-outside (length (a .table .now)) (a .names) (a .copied) (a .used) (length (a .store .now)) (sym (c .before .before .before .before .is-outside .ensures) ∙ c .before .before .before .if2 .left) .0, refl))
+step-read-requires : tie.Need-step-read-requires
+step-read-requires c κs = search needs
 
 same-length : tie.Need-same-length
 same-length c = search needs
@@ -48,21 +19,14 @@ same-length c = search needs
 same-length-2 : tie.Need-same-length-2
 same-length-2 c = search needs
 
-returns-3 : tie.Need-returns-3
-returns-3 c =
-    let a = c .before .before .before .before .before .before .before .before .before .before .before .before .before .before .before .before .args in
-    taken-is (a .s .now) (a .base) (a .finished) (a .copied) (a .names) (a .used) (a .table .now) (a .store .now) (a .rows .now) _ _ _ (sym (c .before .before .before .before .before .before .before .before .before .before .before .is-too-long .ensures) ∙ c .before .before .before .before .before .before .before .before .before .before .if1 .left) (sym (c .before .before .before .before .before .before .before .before .before .is-outside .ensures) ∙ c .before .before .before .before .before .before .before .before .if2 .left) (c .before .before .before .before .before .before .before .stored-in .ensures) (c .before .before .before .before .read-quickly .ensures) (c .if3 .taken)
-
-built-in-requires : tie.Need-built-in-requires
-built-in-requires c κs = search needs
-
-read-requires : tie.Need-read-requires
-read-requires c κs =
-    let a = c .before .before .before .before .before .before .before .before .before .before .before .before .before .before .before .before .before .before .before .before .before .args in
-    (c .before .before .before .before .built-in .ensures, step-ready (a .s .now) (a .base) (a .finished) (a .copied) (a .names) (a .used) (a .table .now) (a .store .now) (a .rows .now) (sym (c .before .before .before .before .before .before .before .before .before .before .before .before .before .before .before .before .is-too-long .ensures) ∙ c .before .before .before .before .before .before .before .before .before .before .before .before .before .before .before .if1 .left) (sym (c .before .before .before .before .before .before .before .before .before .before .before .before .before .before .is-outside .ensures) ∙ c .before .before .before .before .before .before .before .before .before .before .before .before .before .if2 .left) _ (c .before .before .before .before .before .before .before .before .before .before .before .before .stored-in .ensures))
-
 same-length-3 : tie.Need-same-length-3
 same-length-3 c = search needs
+
+returns : tie.Need-returns
+returns c =
+    let a = c .before .before .before .before .before .before .before .before .before .before .before .before .before .before .before .before .before .before .before .before .before .before .args in
+    c .before .before .before .before .before .before .step-read .ensures
+    ∙ ap (λ (w : List ℕ). step (a .s .now) (a .base) (a .finished) (a .copied) (a .names) (a .used) (a .table .now) (a .store .now) w) (c .before .before .before .before .before .before .before .before .before .before .before .before .before .before .step-quickly .ensures .declines (c .before .before .before .before .before .before .before .before .before .before .if1 .taken))
 
 same-length-4 : tie.Need-same-length-4
 same-length-4 c = search needs
@@ -70,30 +34,25 @@ same-length-4 c = search needs
 same-length-5 : tie.Need-same-length-5
 same-length-5 c = search needs
 
-returns-4 : tie.Need-returns-4
-returns-4 c =
-    let a = c .before .before .before .before .before .before .before .before .before .before .before .before .before .before .before .before .before .before .before .before .before .before .before .before .before .before .before .before .args in
-    declined-is (a .s .now) (a .base) (a .finished) (a .copied) (a .names) (a .used) (a .table .now) (a .store .now) (a .rows .now) _ _ _ (sym (c .before .before .before .before .before .before .before .before .before .before .before .before .before .before .before .before .before .before .before .before .before .before .before .is-too-long .ensures) ∙ c .before .before .before .before .before .before .before .before .before .before .before .before .before .before .before .before .before .before .before .before .before .before .if1 .left) (sym (c .before .before .before .before .before .before .before .before .before .before .before .before .before .before .before .before .before .before .before .before .before .is-outside .ensures) ∙ c .before .before .before .before .before .before .before .before .before .before .before .before .before .before .before .before .before .before .before .before .if2 .left) (c .before .before .before .before .before .before .before .before .before .before .before .before .before .before .before .before .before .before .before .stored-in .ensures) (c .before .before .before .before .before .before .before .before .before .before .before .before .before .before .before .before .read-quickly .ensures) (c .before .before .before .before .before .before .before .before .before .before .before .before .if3 .left) _ (c .before .before .before .before .before .before .read .ensures)
+same-length-6 : tie.Need-same-length-6
+same-length-6 c = search needs
+
+returns-2 : tie.Need-returns-2
+returns-2 c =
+    let a = c .before .before .before .before .before .before .before .before .before .before .before .before .args in
+    c .before .before .before .before .step-quickly .ensures .steps (omega (arith, c .if1 .left)) (a .finished)
 
 pub step-spec : {M : Type 1} → statement M
 step-spec =
     tie.close
     (tie.spec
-    is-too-long-requires
-    new-requires
-    returns
-    is-outside-requires
-    new-requires-2
-    returns-2
-    add-stored-in
-    stored-in-requires
-    read-quickly-requires
+    step-quickly-requires
+    step-read-requires
     same-length
     same-length-2
-    returns-3
-    built-in-requires
-    read-requires
     same-length-3
+    returns
     same-length-4
     same-length-5
-    returns-4)
+    same-length-6
+    returns-2)

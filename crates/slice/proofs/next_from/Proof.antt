@@ -1,57 +1,31 @@
+use mathlib.Core.List.{List}
+use mathlib.Core.Path.{ap, _∙_}
+use Prim.Native.Nat.{ℕ}
 use native.Mathlib.Omega.{arith}
-use Rattle.scanner.specs.Step.{stepOf}
+use Rattle.slice_spec.specs.Slice.{nextFrom}
 use Rattle.slice.specs.Answers.{placeOf}
-use mathlib.Core.Path.{sym, ap, _∙_}
-use Rattle.slice.proofs.Onward.{at-end, sums, goes}
+use Rattle.slice.proofs.Onward.{quick-sums, quick-goes}
 use borrow.Author.Needs.{needs}
 use Rattle.slice.proofs.next_from.Statement.{statement}
 use Rattle.slice.proofs.next_from.Tie as tie
 
-returns : tie.Need-returns
-returns c =
-    let a = c .before .before .before .before .args in
-    let p = placeOf (a .place) in
-    at-end p (a .document .now) (a .pool .now) (a .rows .now) (c .if1 .taken)
+sub-step-quickly : tie.Need-sub-step-quickly
+sub-step-quickly c = search needs
 
-sub-step : tie.Need-sub-step
-sub-step c = search needs
+part-step-quickly-start : tie.Need-part-step-quickly-start
+part-step-quickly-start c = search needs
 
-part-step-start : tie.Need-part-step-start
-part-step-start c = search needs
+part-step-quickly-end : tie.Need-part-step-quickly-end
+part-step-quickly-end c = search needs
 
-part-step-end : tie.Need-part-step-end
-part-step-end c = search needs
+step-quickly-requires : tie.Need-step-quickly-requires
+step-quickly-requires c κs = search needs
 
-slice-aggregate-step : tie.Need-slice-aggregate-step
-slice-aggregate-step c = search needs
-
-step-requires : tie.Need-step-requires
-step-requires c κs = search needs
-
-enum-known-count : tie.Need-enum-known-count
-enum-known-count c = search needs
-
-add-t25 : tie.Need-add-t25
-add-t25 c =
-    let a = c .before .before .before .before .before .before .before .before .before .before .before .before .before .before .before .before .before .args in
-    let p = placeOf (a .place) in
-    let e = sym (c .before .before .before .before .before .before .before .before .step .ensures) ∙ ap (stepOf _ _ _) (c .before .count .given .1) in
-    let h = sums p (a .document .now) (a .pool .now) (a .rows .now) _ (c .before .before .before .before .before .before .before .before .before .before .before .before .before .before .before .before .before .pre) _ _ _ _ _ _ _ e in
-    omega (arith, h .0, c .before .before .before .before .before .before .before .before .before .before .before .before .before .before .before .before .before .pre .document-small)
-
-add-t26 : tie.Need-add-t26
-add-t26 c =
-    let a = c .before .before .before .before .before .before .before .before .before .before .before .before .before .before .before .before .before .args in
-    let p = placeOf (a .place) in
-    let e = sym (c .before .before .before .before .before .before .before .before .step .ensures) ∙ ap (stepOf _ _ _) (c .before .count .given .1) in
-    let h = sums p (a .document .now) (a .pool .now) (a .rows .now) _ (c .before .before .before .before .before .before .before .before .before .before .before .before .before .before .before .before .before .pre) _ _ _ _ _ _ _ e in
-    omega (arith, h .1, c .before .before .before .before .before .before .before .before .before .before .before .before .before .before .before .before .before .pre .table-small)
-
-enum-told : tie.Need-enum-told
-enum-told c = search needs
-
-enum-known-r : tie.Need-enum-known-r
-enum-known-r c = search needs
+add-t17 : tie.Need-add-t17
+add-t17 c =
+    let a = c .before .before .before .before .before .before .before .before .before .before .before .before .args in
+    let f = c .before .before .before .before .before .before .before .before .before .before .before .before .pre in
+    omega (arith, quick-sums (placeOf (a .place)) (a .document .now) (a .pool .now) (a .rows .now) _ _ f (c .before .before .before .before .before .step-quickly .ensures) (omega (arith, c .before .if1 .taken)), f .document-small)
 
 same-length : tie.Need-same-length
 same-length c = search needs
@@ -59,12 +33,14 @@ same-length c = search needs
 same-length-2 : tie.Need-same-length-2
 same-length-2 c = search needs
 
-returns-2 : tie.Need-returns-2
-returns-2 c =
-    let a = c .before .before .before .before .before .before .before .before .before .before .before .before .before .before .before .before .before .args in
-    let p = placeOf (a .place) in
-    let e = sym (c .before .before .before .before .before .before .before .before .step .ensures) ∙ ap (stepOf _ _ _) (c .before .count .given .1) in
-    goes p (a .document .now) (a .pool .now) (a .rows .now) _ (c .before .before .before .before .before .before .before .before .before .before .before .before .before .before .before .before .before .pre) _ e (c .before .before .before .before .before .before .before .before .before .before .before .before .before .if1 .left)
+returns : tie.Need-returns
+returns c =
+    let a = c .before .before .before .before .before .before .before .before .before .before .before .before .args in
+    let f = c .before .before .before .before .before .before .before .before .before .before .before .before .pre in
+    quick-goes (placeOf (a .place)) (a .document .now) (a .pool .now) (a .rows .now) _ _ f (c .before .before .before .before .before .step-quickly .ensures) (omega (arith, c .before .if1 .taken))
+
+next-read-requires : tie.Need-next-read-requires
+next-read-requires c κs = search needs
 
 same-length-3 : tie.Need-same-length-3
 same-length-3 c = search needs
@@ -72,47 +48,25 @@ same-length-3 c = search needs
 same-length-4 : tie.Need-same-length-4
 same-length-4 c = search needs
 
-returns-3 : tie.Need-returns-3
-returns-3 c =
-    let a = c .before .before .before .before .before .before .before .before .before .before .before .before .before .before .before .before .args in
+returns-2 : tie.Need-returns-2
+returns-2 c =
+    let a = c .before .before .before .before .before .before .before .before .before .before .before .before .before .before .before .before .before .before .args in
     let p = placeOf (a .place) in
-    let e = sym (c .before .before .before .before .before .before .before .step .ensures) ∙ ap (stepOf _ _ _) (c .enum-told .given .1) in
-    goes p (a .document .now) (a .pool .now) (a .rows .now) _ (c .before .before .before .before .before .before .before .before .before .before .before .before .before .before .before .before .pre) _ e (c .before .before .before .before .before .before .before .before .before .before .before .before .if1 .left)
-
-same-length-5 : tie.Need-same-length-5
-same-length-5 c = search needs
-
-same-length-6 : tie.Need-same-length-6
-same-length-6 c = search needs
-
-returns-4 : tie.Need-returns-4
-returns-4 c =
-    let a = c .before .before .before .before .before .before .before .before .before .before .before .before .before .before .before .before .before .args in
-    let p = placeOf (a .place) in
-    let e = sym (c .before .before .before .before .before .before .before .before .step .ensures) ∙ ap (stepOf _ _ _) (c .before .r .given .1) in
-    goes p (a .document .now) (a .pool .now) (a .rows .now) _ (c .before .before .before .before .before .before .before .before .before .before .before .before .before .before .before .before .before .pre) _ e (c .before .before .before .before .before .before .before .before .before .before .before .before .before .if1 .left)
+    c .before .before .before .before .next-read .ensures ∙ ap (λ (w : List ℕ). nextFrom p (a .document .now) (a .pool .now) w) (c .before .before .before .before .before .before .before .before .before .before .before .step-quickly .ensures .declines (c .before .before .before .before .before .before .before .if1 .left))
 
 pub next-from-spec : {M : Type 1} → statement M
 next-from-spec =
     tie.close
     (tie.spec
-    returns
-    sub-step
-    part-step-start
-    part-step-end
-    slice-aggregate-step
-    step-requires
-    enum-known-count
-    add-t25
-    add-t26
-    enum-told
-    enum-known-r
+    sub-step-quickly
+    part-step-quickly-start
+    part-step-quickly-end
+    step-quickly-requires
+    add-t17
     same-length
     same-length-2
-    returns-2
+    returns
+    next-read-requires
     same-length-3
     same-length-4
-    returns-3
-    same-length-5
-    same-length-6
-    returns-4)
+    returns-2)

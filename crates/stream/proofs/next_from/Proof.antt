@@ -41,7 +41,7 @@ advanced-requires c κs =
     let p = c .before .before .before .before .before .before .before .before .before .before .before .before .before .before .before .before .before .before .before .before .pre in
     let r = streamOf (a .stream) in
     let l = lend (a .window .now) (a .table .now) (a .store .now) in
-    sums r l (a .from) (a .rows .now) (p .0) (p .1) _ _ _ _ _ _ _ _ (c .before .before .before .before .before .before .before .before .before .step .ensures) (c .before .more .given .1)
+    sums r l (a .from) (a .rows .now) (p .0) (p .1) _ _ _ _ _ _ _ _ _ (c .before .before .before .before .before .before .before .before .before .step .ensures) (c .before .more .given .1)
 
 enum-told : tie.Need-enum-told
 enum-told c = search needs
