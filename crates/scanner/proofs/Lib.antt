@@ -14,3 +14,4 @@ mod Turns
 mod Quickly
 mod Choosing
 mod Picking
+mod Leanly

@@ -104,7 +104,7 @@ module _ (finished : Bool) (t : Tally) where
 -- ---- spans of an input that is not too long are small
 
 module _ (l : ℕ) (h : l ≤ maxStore) where
-  ref-small : (names : ℕ) (r : Ref) → RefFits l names r → RefSmall r
+  pub ref-small : (names : ℕ) (r : Ref) → RefFits l names r → RefSmall r
   ref-small names (new t) f = omega arith
   ref-small names (known i) f = tt
 

@@ -51,7 +51,7 @@ counts i a b c d j k p r n m =
     }
 
 -- a row adds two names at most, each no longer than the input
-ref-adds : (names : ℕ) (r : Ref) → RefSmall r → (length (addsRef names r) ≤ 1) × (lengths (addsRef names r) ≤ maxStore)
+pub ref-adds : (names : ℕ) (r : Ref) → RefSmall r → (length (addsRef names r) ≤ 1) × (lengths (addsRef names r) ≤ maxStore)
 unfolding addsRef lengths
 ref-adds names (new t) h = byTest (ltb names most) (λ e. rw e (omega arith, omega arith)) (λ e. rw e (omega arith, omega arith))
 ref-adds names (known i) h = (omega arith, omega arith)

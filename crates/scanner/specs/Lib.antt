@@ -1,4 +1,5 @@
 pub mod Answers
+pub mod Lean
 pub mod Tally
 pub mod Keep
 pub mod Step

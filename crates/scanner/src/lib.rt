@@ -1,10 +1,12 @@
 // The scanner of both readers: readers of one event's fields, rows and attributes; a first pass over an event, which measures; a
 // second, which writes; and the step made of both. Module quick reads common events in one pass, module select takes the rows of an
 // event that a query asks for. A place is counted from the event's first byte, where the slice starts.
+mod lean;
 pub mod quick;
 pub mod select;
 
 use event::Shape;
+use lean::Past;
 use quick::Taken;
 use wire::Command;
 use wire::Refusal;
@@ -23,6 +25,7 @@ ghost use Rattle.grammar.specs.Grammar.{u16, u32, u64, string, blob, name, valu
 ghost use Rattle.grammar.specs.Document.{typeOf};
 ghost use Rattle.grammar.specs.Scan.{sound, outcome, measure, addsRef, addsName, addsValue, addsItem, adds, lengths, pairs, nameWords, valueWords, itemWords, words};
 ghost use Rattle.scanner.specs.Tally.{Small, NameSmall, ValueSmall, ItemSmall, Bounded, Joins, Counts, plus, outcomeOf, measuredOf};
+ghost use Rattle.scanner.specs.Lean.{PassedItem};
 ghost use Rattle.scanner.specs.Keep.{There, Copyable, Copied, NamePlaced, ValuePlaced, ItemPlaced, NameRoom, ValueRoom, PoolAfter, Keepable, Writable, wordsOf, moved, carried, Movable};
 ghost use Rattle.scanner.specs.Step.{Quickly, SteppedQuickly, Ready, readBy, stepOf, step, tooLong, outside};
 ghost use Rattle.scanner.specs.Answers.{numberOf, textOf, nameOf, newName, valueReadOf, asText, asInterned, asWord, asPair, valueOf, itemOf, poolGrown, referenceOf, asAttribute, asTag, asTextRow, itemReadOf, Trusted};
@@ -612,8 +615,8 @@ fn at_edge(finished: bool, at: usize) -> Outcome
     Outcome::Incomplete
 }
 
-// The attributes of a start tag, from a place on, after what the tally has.
-fn measure_rest(
+// The attributes of a start tag, from a place on, after what the tally has, by their items.
+fn measure_slowly(
     s: &[u8],
     from: usize,
     finished: bool,
@@ -648,6 +651,89 @@ fn measure_rest(
                 return told(tally, Outcome::Bad(r));
             }
         }
+    }
+    told(tally, at_edge(finished, at))
+}
+
+// With a field that was passed over: its new name, if it is one.
+fn with_past(tally: Tally, past: Past) -> Tally
+    requires { ⌜ Small tally ⌝ }
+    requires { ⌜ past .bytes ≤ maxStore ⌝ }
+    ensures none { λ r. ⌜ (past .fresh ≡ 0 → r ≡ tally) ⌝ }
+    ensures one { λ r. ⌜ (0 < past .fresh → Joins (cond (ltb (tally .pool .names) most) 1 0) (cond (ltb (tally .pool .names) most) (past .bytes) 0) (cond (ltb (tally .pool .names) most) (tally .pool .names + 1) (tally .pool .names)) tally r) ⌝ }
+{
+    if past.fresh != 0 {
+        return with_new(tally, past.bytes);
+    }
+    tally
+}
+
+// The place after an attribute, and the tally with it. A place of 0: it was not read.
+pub struct Passed {
+    pub next: usize,
+    pub tally: Tally,
+}
+
+fn pass_attribute(s: &[u8], at: usize, tokens: &[u16; 256], table: &[u32], tally: Tally) -> Passed
+    requires { ⌜ (at < length (now s)) × (length (now s) ≤ maxStore) ⌝ }
+    requires { ⌜ now tokens ≡ builtIn ⌝ }
+    requires { ⌜ 2 * tally .pool .kept ≤ length (now table) ⌝ }
+    requires { ⌜ Bounded at tally ⌝ }
+    ensures { λ r. ⌜ (0 < r .next → PassedItem (attribute (sound (tally .pool .kept) (now (table .entry)) (tally .pool .stored)) (tally .pool .names) (now (s .entry)) at) tally r) ⌝ }
+{
+    let no = Passed { next: 0, tally };
+    let name = lean::after_name(name_at(s, at + 1, true, table, tally.pool));
+    if name.next == 0 {
+        return no;
+    }
+    let type_ = Type::new(tokens, s[at]);
+    let named = with_past(tally, name);
+    let value = lean::after_value(s, name.next, table, named.pool, type_.0);
+    if value.next == 0 {
+        return no;
+    }
+    let valued = with_past(named, value);
+    let pool = valued.pool;
+    Passed {
+        next: value.next,
+        tally: Tally {
+            pool,
+            rows: valued.rows + 1,
+            added: valued.added,
+            bytes: valued.bytes,
+        },
+    }
+}
+
+// The attributes of a start tag, from a place on, after what the tally has. Where one cannot be passed over, the items tell why.
+fn measure_rest(
+    s: &[u8],
+    from: usize,
+    finished: bool,
+    tokens: &[u16; 256],
+    table: &[u32],
+    start: Tally,
+) -> Measured
+    requires { ⌜ (from ≤ length (now s)) × (length (now s) ≤ maxStore) ⌝ }
+    requires { ⌜ now tokens ≡ builtIn ⌝ }
+    requires { ⌜ 2 * start .pool .kept ≤ length (now table) ⌝ }
+    requires { ⌜ Bounded from start ⌝ }
+    ensures { λ r. ⌜ measuredOf r ≡ plus start (measure finished (start .pool .names) (attributesF (sound (start .pool .kept) (now (table .entry)) (start .pool .stored)) (length (now (s .entry))) (start .pool .names) (now (s .entry)) from)) ⌝ }
+{
+    let mut at = from;
+    let mut tally = start;
+    while at < s.len() {
+        let command = Command::new(tokens, s[at]);
+        let kind = command.0;
+        if kind != Command::ATTRIBUTE {
+            return told(tally, Outcome::Complete(at));
+        }
+        let passed = pass_attribute(s, at, tokens, table, tally);
+        if passed.next == 0 {
+            return measure_slowly(s, at, finished, tokens, table, tally);
+        }
+        tally = passed.tally;
+        at = passed.next;
     }
     told(tally, at_edge(finished, at))
 }
