@@ -7,6 +7,7 @@ mod names;
 #[allow(dead_code)] // the comparison with the Rust uses the rest
 mod ours;
 mod same_bytes;
+mod writer;
 
 use std::process::ExitCode;
 
@@ -19,7 +20,8 @@ fn main() -> ExitCode {
     let random = &mut Random::new(seed);
     let good = same_bytes::stored_agree()
         && same_bytes::agrees(random, 1_000_000)
-        && names::agree(random, 1_500);
+        && names::agree(random, 1_500)
+        && writer::agrees(random, 100_000);
     if good {
         println!("models: no difference");
         return ExitCode::SUCCESS;
