@@ -85,22 +85,30 @@ fn milliseconds<T>(work: impl FnOnce() -> T) -> f64 {
     time_taken() - begin
 }
 
-/// The milliseconds of each. The two take turns, so that noise hits both, and the best turn of each counts.
-pub fn best<T, U>(
-    turns: usize,
-    mut ours: impl FnMut() -> T,
-    mut rust: impl FnMut() -> U,
-) -> [f64; 2] {
-    let mut best = [f64::MAX; 2];
+/// The milliseconds of each. They take turns, so that noise hits all, and the best turn of each counts.
+pub fn best_of<const N: usize>(turns: usize, mut works: [&mut dyn FnMut(); N]) -> [f64; N] {
+    let mut best = [f64::MAX; N];
     let begin = Instant::now();
     let mut turn = 0;
     // short ones get more turns
     while turn < turns || begin.elapsed().as_secs() < 2 {
         turn += 1;
-        best[0] = best[0].min(milliseconds(&mut ours));
-        best[1] = best[1].min(milliseconds(&mut rust));
+        for (work, best) in works.iter_mut().zip(&mut best) {
+            *best = best.min(milliseconds(work));
+        }
     }
     best
+}
+
+/// The same of two whose answers are not needed.
+pub fn best<T, U>(
+    turns: usize,
+    mut ours: impl FnMut() -> T,
+    mut rust: impl FnMut() -> U,
+) -> [f64; 2] {
+    let ours = &mut || drop(black_box(ours()));
+    let rust = &mut || drop(black_box(rust()));
+    best_of(turns, [ours, rust])
 }
 
 /// A line of the table. The two must have the same size.
