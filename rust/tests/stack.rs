@@ -13,11 +13,22 @@ use std::thread;
 use library::*;
 use lists::{short_names, List, Writer, MOST_NAMES};
 
-/// A call that handles one event of up to 64 rows.
+/// A call that handles one event, of up to 1,024 rows where it is written.
 const ONE_EVENT: usize = 64 * 1024;
 
-/// A list call, an event of more rows, or a query.
+/// A query, and what is written with up to 20,480 different names.
 const LIST: usize = 600 * 1024;
+
+/// What is written with more.
+const ALL_NAMES: usize = 1700 * 1024;
+
+fn list_of(names: usize) -> usize {
+    if names <= 20_480 {
+        LIST
+    } else {
+        ALL_NAMES
+    }
+}
 
 /// What a thread takes for itself, and the test in it.
 const THREAD: usize = 16 * 1024;
@@ -164,28 +175,47 @@ fn events_one_by_one() {
 
 #[test]
 fn lists() {
-    for rows in [1, 64, 65, 1_000, 16_384, 16_385, 40_000, 70_000] {
+    for rows in [1, 64, 65, 1_000, 4_096, 4_097, 20_480, 20_481, 70_000] {
+        let stack = list_of(rows);
         let names = short_names(0, rows);
         let list = List::new(&names);
         let mut writer = Writer::new();
         let name = format!("write_events, {rows} rows");
-        with_stack(LIST, &name, || writer.write(&list));
+        with_stack(stack, &name, || writer.write(&list));
         assert_eq!(writer.names, rows.min(MOST_NAMES));
         // again, with the pool that it left
-        with_stack(LIST, &name, || writer.write(&list));
+        with_stack(stack, &name, || writer.write(&list));
         assert_eq!(writer.names, rows.min(MOST_NAMES));
         let twice = [List::new(&names), List::new(&names)];
         assert!(writer.document() == with_ample_stack(&twice), "{name}");
     }
 }
 
+/// Many rows of few names: how many rows there are does not count.
+#[test]
+fn a_long_list_of_few_names() {
+    let mut names = short_names(0, 1_000);
+    for _ in 0..7 {
+        names.extend_from_within(..);
+    }
+    let list = List::new(&names);
+    let mut writer = Writer::new();
+    with_stack(LIST, "128,000 rows", || writer.write(&list));
+    assert_eq!(writer.names, 1_000);
+}
+
 #[test]
 fn a_long_event() {
-    for rows in [65, 1_000, 40_000, 70_000] {
+    for rows in [65, 1_024, 1_025, 20_480, 70_000] {
+        let stack = if rows <= 1_024 {
+            ONE_EVENT
+        } else {
+            list_of(rows)
+        };
         let tag = tag(rows);
         let mut writer = Writer::new();
         let name = format!("write_event, {rows} rows");
-        let answer = with_stack(LIST, &name, || writer.event(&tag.store, &tag.rows));
+        let answer = with_stack(stack, &name, || writer.event(&tag.store, &tag.rows));
         writer.take(answer);
         assert!(writer.document() == with_ample_stack(&[tag]), "{name}");
     }
@@ -197,14 +227,17 @@ fn a_list_that_is_refused_late() {
     // a row that ends outside
     list.rows.extend([3, 0, u32::MAX, 1, 0, 0, 0, 0]);
     let mut writer = Writer::new();
-    let answer = with_stack(LIST, "a refused list", || writer.list(&list));
+    let answer = with_stack(ALL_NAMES, "a refused list", || writer.list(&list));
     assert_eq!(answer, [2, 16, 0, 0]);
     // a pool that is too short for the last name
     let list = List::new(&short_names(0, 60_000));
     let pool = &mut writer.pool[..2 * 59_999];
     let (store, output) = (&list.store, &mut writer.output);
     let write = || abx_write_events(4, 0, store, &[], &list.rows, output, pool);
-    assert_eq!(with_stack(LIST, "a refused list", write), [2, 11, 0, 0]);
+    assert_eq!(
+        with_stack(ALL_NAMES, "a refused list", write),
+        [2, 11, 0, 0]
+    );
 }
 
 #[cfg(feature = "queries")]
