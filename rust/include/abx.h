@@ -5,7 +5,10 @@
  *
  * An answer is four words, and is written where answer_len is 4 or more: ABX_DONE and what was asked for; ABX_END; ABX_REFUSED, a
  * refusal's number (1 to 19) and its detail; or ABX_NEED_MORE. A refused call changes nothing else, but for a query, which keeps
- * what it found. A call of the writer takes 1.6 MB of stack, a query 0.6 MB.
+ * what it found.
+ *
+ * Stack: a call that handles one event takes less than 64 KB (abx_write_event where it has at most 1,024 rows); a query, a list, and a
+ * longer event less than 600 KB, but where more than 20,480 different names are written, 1.6 MB.
  *
  * A row is eight words: kind; name (source, start, length); type; value (source, a, b). A span's source is 0 for the document, the window
  * or the first store, 1 for the name store or the second store. A pool has two words for a name, and an even length, at most 131,070. */
