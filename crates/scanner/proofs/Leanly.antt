@@ -17,7 +17,6 @@ use Rattle.scanner.specs.Answers.{asText, asInterned, asAttribute}
 use Rattle.scanner.specs.Lean.{pastRef, pastSpan, pastName, pastItem, pastValue, PassedItem}
 use Rattle.scanner.specs.Tally.{RefSmall, ValueSmall, Small, Bounded, Joins}
 use Rattle.scanner.specs.declared.Tally.{Tally}
-use Rattle.scanner.specs.declared.Passed.{Passed}
 use Rattle.scanner.specs.declared.lean.Past.{Past}
 use Rattle.scanner.proofs.Tallies.{joins-none, new-added, new-bytes, counts, ref-adds}
 use Rattle.scanner.proofs.Rest.{ref-small, attribute-small}
@@ -51,19 +50,19 @@ item-next (Value.interned r) n = ref-next r n
 item-next (Value.word w) n = refl
 item-next (Value.pair a b) n = refl
 
-pub record PastRead {A : Type 0} (past : A → ℕ → Past) (x : Read A) (p : Past) : Type 0 where
+record PastRead {A : Type 0} (past : A → ℕ → Past) (x : Read A) (p : Past) : Type 0 where
   pub it : A
   pub is : x ≡ got it (p .next)
   pub said : p ≡ past it (p .next)
 
-pub name-read : (x : Read Ref) (p : Past) → p ≡ pastName x → 0 < p .next → PastRead pastRef x p
+name-read : (x : Read Ref) (p : Past) → p ≡ pastName x → 0 < p .next → PastRead pastRef x p
 name-read (got r n) p e h =
     let k = sym (ap place e ∙ ref-next r n) in
     record { it = r; is = ap (got r) k; said = e ∙ ap (pastRef r) k }
 name-read (short k) p e h = absurd (omega (arith, h, ap place e))
 name-read (refused n d) p e h = absurd (omega (arith, h, ap place e))
 
-pub value-read : (x : Read Value) (p : Past) → p ≡ pastValue x → 0 < p .next → PastRead pastItem x p
+value-read : (x : Read Value) (p : Past) → p ≡ pastValue x → 0 < p .next → PastRead pastItem x p
 value-read (got v n) p e h =
     let k = sym (ap place e ∙ item-next v n) in
     record { it = v; is = ap (got v) k; said = e ∙ ap (pastItem v) k }
@@ -73,14 +72,14 @@ value-read (refused n d) p e h = absurd (omega (arith, h, ap place e))
 -- ---- what it adds
 
 module _ (p : Past) (n : ℕ) where
-  pub ref-bytes : (r : Ref) → p ≡ pastRef r n → RefSmall r → p .bytes ≤ maxStore
+  ref-bytes : (r : Ref) → p ≡ pastRef r n → RefSmall r → p .bytes ≤ maxStore
   ref-bytes (new t) e h = omega (arith, h, ap (λ (q : Past). q .bytes) e)
   ref-bytes (known k) e h = omega (arith, ap (λ (q : Past). q .bytes) e)
 
   plain-bytes : p ≡ record { next = n; fresh = 0; bytes = 0 } → p .bytes ≤ maxStore
   plain-bytes e = omega (arith, ap (λ (q : Past). q .bytes) e)
 
-  pub value-bytes : (v : Value) → p ≡ pastItem v n → ValueSmall v → p .bytes ≤ maxStore
+  value-bytes : (v : Value) → p ≡ pastItem v n → ValueSmall v → p .bytes ≤ maxStore
   value-bytes Value.nothing e h = plain-bytes e
   value-bytes Value.empty e h = plain-bytes e
   value-bytes (Value.span t) e h = plain-bytes e
@@ -94,7 +93,7 @@ module _ (p : Past) (n : ℕ) where
     plain-joins : p ≡ record { next = n; fresh = 0; bytes = 0 } → Joins 0 0 (t .pool .names) t u
     plain-joins e = subst (λ (x : Tally). Joins 0 0 (t .pool .names) t x) (sym (none (ap (λ (q : Past). q .fresh) e))) (joins-none t)
 
-    pub ref-joins : (r : Ref) → p ≡ pastRef r n → Joins (length (addsRef (t .pool .names) r)) (lengths (addsRef (t .pool .names) r)) (counted (t .pool .names) r) t u
+    ref-joins : (r : Ref) → p ≡ pastRef r n → Joins (length (addsRef (t .pool .names) r)) (lengths (addsRef (t .pool .names) r)) (counted (t .pool .names) r) t u
     unfolding counted addsRef lengths
     ref-joins (new s) e = joined (omega (arith, ap (λ (q : Past). q .fresh) e)) s (ap (λ (q : Past). q .bytes) e)
       where
@@ -102,7 +101,7 @@ module _ (p : Past) (n : ℕ) where
         joined h s k = rw (← new-added (t .pool .names) s, ← new-bytes (t .pool .names) s, ← k) (one h)
     ref-joins (known k) e = plain-joins e
 
-    pub value-joins : (v : Value) → p ≡ pastItem v n
+    value-joins : (v : Value) → p ≡ pastItem v n
         → Joins (length (addsValue (t .pool .names) v)) (lengths (addsValue (t .pool .names) v)) (countedValue (t .pool .names) v) t u
     unfolding addsValue countedValue lengths
     value-joins Value.nothing e = plain-joins e

@@ -15,3 +15,4 @@ mod Quickly
 mod Choosing
 mod Picking
 mod Leanly
+mod Filling

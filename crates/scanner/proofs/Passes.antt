@@ -13,7 +13,7 @@ use Rattle.grammar.specs.Added.{AllIn, adds-in}
 use Rattle.grammar.specs.Stores.{sound-sets, pairs-length, copied-length}
 use Rattle.scanner.specs.declared.Pool.{Pool}
 use Rattle.wire.specs.Limits.{maxStore}
-use Rattle.scanner.specs.Keep.{moved, carried, Movable, Ended, Writable, Copyable, There, Copied}
+use Rattle.scanner.specs.Keep.{moved, carried, Movable, Ended, Writable, Copyable, Copied}
 use Rattle.scanner.proofs.Walk.{soundOf}
 use Rattle.scanner.proofs.Keeping.{moved-pairs, carried-pairs, pairs-movable}
 
@@ -66,15 +66,6 @@ module _ (base : ℕ) (s : List ℕ) (p : Pool) (table rows : List ℕ) (to : �
       let l : length table₁ ≡ length table = ap length e ∙ length-sets table (2 * p .names) vs in
       rw (same-rows table₁ vs e)
       (record { keepable = record { ended = k .ended; in-store = k .in-store; pairs-fit = omega (arith, k .pairs-fit); kept-first = k .kept-first }; rows-fit = w .rows-fit })
-
-  -- new names that stay where they are
-  pub writable-there : (table₁ : List ℕ) → table₁ ≡ sets table (2 * p .names) (pairs base ts) → Writable base s (event (soundOf p table₁) (p .names) s) p table₁ rows to
-  writable-there table₁ e = writable-after table₁ (pairs base ts) e
-
-  pub there : (table₁ rows₁ : List ℕ) → table₁ ≡ sets table (2 * p .names) (pairs base ts) → rows₁ ≡ sets rows 0 (words 0 base table₁ (event (soundOf p table₁) (p .names) s))
-      → There base is (p .names) table table₁ rows rows₁
-  there table₁ rows₁ e f =
-      record { table-is = e; rows-is = f ∙ ap (λ (x : Items). sets rows 0 (words 0 base table₁ x)) (same-rows table₁ (pairs base ts) e) }
 
   -- new names that are copied
   module _ (added used : ℕ) (store table₁ : List ℕ) (c : Copyable is (p .names) added store used) (e : table₁ ≡ sets table (2 * p .names) (pairs 0 ts)) where

@@ -59,7 +59,7 @@ module _ (s : List ℕ) (base : ℕ) (finished copied : Bool) (names used : ℕ)
         (λ k. let bytes : used + 0 ≤ length store = omega (arith, o .1 k) in rw (k, le-ltb (length store) (used + 0) bytes, d, k))
         (λ k. rw (k, d, k)))
 
-    pub taken-is : Quick → (t .len ≡ 0 → ⊥) → record { reply = gives (t .rows) (t .len) 0 0; table = table; store = store; rows = rows₁ } ≡ step s base finished copied names used table store rows
+    taken-is : Quick → (t .len ≡ 0 → ⊥) → record { reply = gives (t .rows) (t .len) 0 0; table = table; store = store; rows = rows₁ } ≡ step s base finished copied names used table store rows
     unfolding step byOutcome
     taken-is (declined a b) n = absurd (n a)
     taken-is (taken h a b c d q) n =

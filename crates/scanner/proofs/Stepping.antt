@@ -89,7 +89,7 @@ module _ (finished copied : Bool) (base : ℕ) (p : Pool) (used : ℕ) (s table 
                 rows-fit = omega arith;
               }
 
-          pub there-is : copied ≡ false → (table₁ rows₁ : List ℕ) → There base is (p .names) table table₁ rows rows₁
+          pub there-is : copied ≡ false → (table₁ rows₁ : List ℕ) → There 0 base is (p .names) table table₁ rows rows₁
               → record { reply = gives (m .rows) n (m .added) (m .bytes); table = table₁; store = store; rows = rows₁ } ≡ Whole
           unfolding readBy byOutcome handOut written
           there-is c table₁ rows₁ w =

@@ -101,10 +101,10 @@ Movable (suc k) used s ps store = (getD ps 0 0 + getD ps 1 0 ≤ length s) × Mo
 
 -- ---- what the second pass leaves
 
--- where new names stay where they are
-pub record There (base : ℕ) (is : Items) (names : ℕ) (table table′ rows rows′ : List ℕ) : Type 0 where
+-- where new names stay where they are, and the rows are written from the word `to` on
+pub record There (to base : ℕ) (is : Items) (names : ℕ) (table table′ rows rows′ : List ℕ) : Type 0 where
   pub table-is : table′ ≡ sets table (2 * names) (pairs base (adds names is))
-  pub rows-is : rows′ ≡ sets rows 0 (words 0 base table′ is)
+  pub rows-is : rows′ ≡ sets rows to (words 0 base table′ is)
 
 -- where they are copied: there is room for their bytes
 pub record Copyable (is : Items) (names added : ℕ) (store : List ℕ) (used : ℕ) : Type 0 where

@@ -2,6 +2,7 @@ pub mod Answers
 pub mod Lean
 pub mod Tally
 pub mod Keep
+pub mod Fill
 pub mod Step
 pub mod Quick
 pub mod Select

@@ -1,6 +1,8 @@
 // The scanner of both readers: readers of one event's fields, rows and attributes; a first pass over an event, which measures; a
-// second, which writes; and the step made of both. Module quick reads common events in one pass, module select takes the rows of an
-// event that a query asks for. A place is counted from the event's first byte, where the slice starts.
+// second, which writes; and the step made of both. Module lean has the first pass's readers, module fill the second pass where names
+// stay where they are. Module quick reads common events in one pass, module select takes the rows of an event that a query asks
+// for. A place is counted from the event's first byte, where the slice starts.
+mod fill;
 mod lean;
 pub mod quick;
 pub mod select;
@@ -26,7 +28,7 @@ ghost use Rattle.grammar.specs.Document.{typeOf};
 ghost use Rattle.grammar.specs.Scan.{sound, outcome, measure, addsRef, addsName, addsValue, addsItem, adds, lengths, pairs, nameWords, valueWords, itemWords, words};
 ghost use Rattle.scanner.specs.Tally.{Small, NameSmall, ValueSmall, ItemSmall, Bounded, Joins, Counts, plus, outcomeOf, measuredOf};
 ghost use Rattle.scanner.specs.Lean.{PassedItem};
-ghost use Rattle.scanner.specs.Keep.{There, Copyable, Copied, NamePlaced, ValuePlaced, ItemPlaced, NameRoom, ValueRoom, PoolAfter, Keepable, Writable, wordsOf, moved, carried, Movable};
+ghost use Rattle.scanner.specs.Keep.{Copyable, Copied, NamePlaced, ValuePlaced, ItemPlaced, NameRoom, ValueRoom, PoolAfter, Keepable, Writable, wordsOf, moved, carried, Movable};
 ghost use Rattle.scanner.specs.Step.{Quickly, SteppedQuickly, Ready, readBy, stepOf, step, tooLong, outside};
 ghost use Rattle.scanner.specs.Answers.{numberOf, textOf, nameOf, newName, valueReadOf, asText, asInterned, asWord, asPair, valueOf, itemOf, poolGrown, referenceOf, asAttribute, asTag, asTextRow, itemReadOf, Trusted};
 
@@ -1151,23 +1153,6 @@ pub enum Stepped {
     Refused(Refusal),
 }
 
-// The rows and names of an event whose new names stay where they are.
-fn write_there(
-    s: &[u8],
-    base: usize,
-    tokens: &[u16; 256],
-    table: &mut [u32],
-    pool: Pool,
-    rows: &mut [u32],
-)
-    requires { ⌜ now tokens ≡ builtIn ⌝ }
-    requires { ⌜ Writable base (now s) (event (sound (pool .kept) (now table) (pool .stored)) (pool .names) (now s)) pool (now table) (now rows) 0 ⌝ }
-    ensures { λ _. ⌜ There base (event (sound (pool .kept) (now (table .entry)) (pool .stored)) (pool .names) (now (s .entry))) (pool .names) (now (table .entry)) (now (table .exit)) (now (rows .entry)) (now (rows .exit)) ⌝ }
-{
-    keep(s, base, tokens, table, pool);
-    write(s, 0, base, tokens, table, pool, rows)
-}
-
 // The rows and names of an event whose new names are copied to the store, from a place on.
 fn write_copied(
     s: &[u8],
@@ -1236,7 +1221,7 @@ fn read(
                     bytes: m.bytes,
                 };
             }
-            write_there(s, base, tokens, table, pool, rows);
+            fill::fill(s, base, tokens, table, pool, rows);
             Stepped::Event {
                 spare: Refusal {
                     number: 0,

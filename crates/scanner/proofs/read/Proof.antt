@@ -80,8 +80,8 @@ returns-4 c =
     let p = c .before .before .before .before .before .before .before .before .before .before .before .before .before .before .before .before .before .before .before .before .before .before .before .before .before .before .before .pre in
     copied-is (a .finished) (a .copied) (a .base) (a .pool) (a .used) (a .s .now) (a .table .now) (a .store .now) (a .rows .now) _ (c .before .before .before .before .before .before .before .before .before .before .before .before .before .before .before .before .before .before .before .before .before .measure .ensures) _ (ap outcomeOf (c .before .before .before .before .before .before .before .before .before .before .before .before .before .before .before .before .before .before .before .outcome2 .given .1)) (c .before .before .before .before .before .before .before .before .before .before .before .before .before .before .before .before .if1 .left) (p .1) (c .before .before .before .before .before .before .before .before .before .before .before .before .before .if2 .left) (c .before .before .before .before .before .before .before .before .before .before .before .before .if3 .taken) (c .before .before .before .before .before .before .before .before .before .before .if4 .left) _ _ _ (c .before .before .before .before .before .before .write-copied .ensures)
 
-write-there-requires : tie.Need-write-there-requires
-write-there-requires c κs =
+fill-requires : tie.Need-fill-requires
+fill-requires c κs =
     let a = c .before .before .before .before .before .before .before .before .before .before .before .before .before .before .before .before .before .args in
     let p = c .before .before .before .before .before .before .before .before .before .before .before .before .before .before .before .before .before .pre in
     (p .0, can-write (a .finished) (a .copied) (a .base) (a .pool) (a .used) (a .s .now) (a .table .now) (a .store .now) (a .rows .now) _ (c .before .before .before .before .before .before .before .before .before .before .before .measure .ensures) _ (ap outcomeOf (c .before .before .before .before .before .before .before .before .before .outcome2 .given .1)) (c .before .before .before .before .before .before .if1 .left) (p .1) (c .before .before .before .if2 .left))
@@ -114,7 +114,7 @@ returns-7 : tie.Need-returns-7
 returns-7 c =
     let a = c .before .before .before .before .before .before .before .before .before .before .before .before .before .before .before .before .before .before .before .before .before .before .args in
     let p = c .before .before .before .before .before .before .before .before .before .before .before .before .before .before .before .before .before .before .before .before .before .before .pre in
-    there-is (a .finished) (a .copied) (a .base) (a .pool) (a .used) (a .s .now) (a .table .now) (a .store .now) (a .rows .now) _ (c .before .before .before .before .before .before .before .before .before .before .before .before .before .before .before .before .measure .ensures) _ (ap outcomeOf (c .before .before .before .before .before .before .before .before .before .before .before .before .before .before .outcome2 .given .1)) (c .before .before .before .before .before .before .before .before .before .before .before .if1 .left) (p .1) (c .before .before .before .before .before .before .before .before .if2 .left) (c .before .before .before .before .before .before .before .if3 .left) _ _ (c .before .before .before .before .write-there .ensures)
+    there-is (a .finished) (a .copied) (a .base) (a .pool) (a .used) (a .s .now) (a .table .now) (a .store .now) (a .rows .now) _ (c .before .before .before .before .before .before .before .before .before .before .before .before .before .before .before .before .measure .ensures) _ (ap outcomeOf (c .before .before .before .before .before .before .before .before .before .before .before .before .before .before .outcome2 .given .1)) (c .before .before .before .before .before .before .before .before .before .before .before .if1 .left) (p .1) (c .before .before .before .before .before .before .before .before .if2 .left) (c .before .before .before .before .before .before .before .if3 .left) _ _ (c .before .before .before .before .fill .ensures)
 
 pub read-spec : {M : Type 1} → statement M
 read-spec =
@@ -140,7 +140,7 @@ read-spec =
     same-length-5
     same-length-6
     returns-4
-    write-there-requires
+    fill-requires
     same-length-7
     returns-5
     same-length-8
