@@ -1,4 +1,5 @@
-//! Our queries beside the Rust's `AbxParser`: each from a document's start, with new readers.
+//! Our queries beside the Rust's `AbxParser`: each from a document's start, with new readers. First through long documents, then short
+//! ones in a loop: all four on a small document, and two that end with a large one's first tags.
 
 use std::collections::HashMap;
 use std::hint::black_box;
@@ -42,34 +43,51 @@ fn ours(document: &[u8], query: &Query, pool: &mut [u32], rows: &mut [u32]) -> (
     }
 }
 
-/// A line of the table. Beside the rows that are found there is room for those of any event.
-fn measure(name: &str, document: &[u8], query: &Query, spare: usize) {
+/// The events and rows of a query, and the best milliseconds of ours and the Rust's for so many of it. Beside the rows that are found
+/// there is room for those of any event.
+fn measure(document: &[u8], query: &Query, spare: usize, times: usize) -> (usize, usize, [f64; 2]) {
     let count = rust(document, query);
     let mut pool = vec![0; 131_070];
     let mut rows = vec![0; 8 * (count + spare)];
     let (written, events) = ours(document, query, &mut pool, &mut rows);
-    assert_eq!(written, count, "{name}, {query:?}");
-    let ours = || ours(document, query, &mut pool, &mut rows);
-    let [ours, rust] = table::best(25, ours, || rust(document, query));
-    let asked = match query.kind {
-        QueryKind::FindAttribute => "find_attribute, late",
-        QueryKind::AttributesOf => "attributes_of, late",
-        QueryKind::FindAllAttributes => "find_all_attributes",
-        QueryKind::AllAttributesOf => "all_attributes_of",
+    assert_eq!(written, count, "{query:?}");
+    let ours = || {
+        for _ in 0..times {
+            black_box(ours(document, black_box(query), &mut pool, &mut rows));
+        }
     };
-    println!(
-        "| {name} | {asked} | {events} | {count} | {ours:.1} | {rust:.1} | {:.2} |",
-        rust / ours
-    );
+    let rust = || {
+        for _ in 0..times {
+            black_box(rust(document, black_box(query)));
+        }
+    };
+    (events, count, table::best(25, ours, rust))
 }
 
-/// Of a document: the commonest element, with its commonest attribute; and the element that first comes last, with its first
-/// attribute.
-fn names_in(document: &[u8]) -> ([String; 2], [String; 2]) {
+fn query(kind: QueryKind, [element, name]: &[String; 2]) -> Query {
+    Query {
+        kind,
+        element: element.clone().into_bytes(),
+        name: name.clone().into_bytes(),
+    }
+}
+
+fn called(kind: QueryKind) -> &'static str {
+    match kind {
+        QueryKind::FindAttribute => "find_attribute",
+        QueryKind::AttributesOf => "attributes_of",
+        QueryKind::FindAllAttributes => "find_all_attributes",
+        QueryKind::AllAttributesOf => "all_attributes_of",
+    }
+}
+
+/// Of a document: the commonest element, with its commonest attribute; the first element that has attributes, and the one that first
+/// comes last, each with its first attribute.
+fn names_in(document: &[u8]) -> [[String; 2]; 3] {
     let mut parser = AbxParser::new(document).unwrap();
     let mut elements = HashMap::<String, usize>::new();
     let mut attributes = HashMap::<[String; 2], usize>::new();
-    let mut late = [String::new(), String::new()];
+    let mut firsts = vec![];
     while let Some(event) = parser.next_event().unwrap() {
         let Event::StartTag {
             name,
@@ -80,7 +98,7 @@ fn names_in(document: &[u8]) -> ([String; 2], [String; 2]) {
         };
         let count = elements.entry(name.to_string()).or_default();
         if *count == 0 && !all.is_empty() {
-            late = [name.to_string(), all[0].name.to_string()];
+            firsts.push([name.to_string(), all[0].name.to_string()]);
         }
         *count += 1;
         for attribute in &all {
@@ -92,32 +110,69 @@ fn names_in(document: &[u8]) -> ([String; 2], [String; 2]) {
         .into_iter()
         .max_by_key(|(key, count)| (elements[&key[0]], *count, key.clone()))
         .unwrap();
-    (common, late)
+    [common, firsts[0].clone(), firsts.pop().unwrap()]
+}
+
+fn head(unit: &str) {
+    println!("| document | query | events | rows | ours {unit} | Rust {unit} | ratio |");
+    println!("|---|---|---|---|---|---|---|");
+}
+
+/// A line of the table: milliseconds of a query that is asked once, else nanoseconds of one.
+fn line(name: &str, asked: &str, document: &[u8], query: &Query, spare: usize, times: usize) {
+    let (events, rows, [ours, rust]) = measure(document, query, spare, times);
+    let each = |milliseconds: f64| match times {
+        1 => format!("{milliseconds:.1}"),
+        _ => format!("{:.0}", milliseconds * 1e6 / times as f64),
+    };
+    println!(
+        "| {name} | {asked} | {events} | {rows} | {} | {} | {:.2} |",
+        each(ours),
+        each(rust),
+        rust / ours
+    );
+}
+
+fn long() {
+    head("ms");
+    let names = ["packages14", "names20k-once", "names20k-x8"];
+    table::each(&names, |name, document| {
+        let [common, _, late] = names_in(document);
+        let mut parser = AbxParser::new(document).unwrap();
+        let spare = table::read(document, || parser.next_event().unwrap()).most_rows;
+        for (asked, kind, names) in [
+            ("find_all_attributes", QueryKind::FindAllAttributes, &common),
+            ("all_attributes_of", QueryKind::AllAttributesOf, &common),
+            ("find_attribute, late", QueryKind::FindAttribute, &late),
+        ] {
+            line(name, asked, document, &query(kind, names), spare, 1);
+        }
+    });
+}
+
+/// So many queries in a loop, each with a new reader.
+fn short() {
+    const TIMES: usize = 1000;
+    head("ns");
+    let small = include_bytes!("../samples/settings.abx");
+    let [common, first, _] = names_in(small);
+    for (which, names) in [("first tag", &first), ("commonest tag", &common)] {
+        for kind in QueryKind::ALL {
+            let asked = format!("{}, {which}", called(kind));
+            line("settings", &asked, small, &query(kind, names), 16, TIMES);
+        }
+    }
+    table::each(&["packages14", "names20k-once"], |name, document| {
+        let [_, first, _] = names_in(document);
+        for kind in [QueryKind::FindAttribute, QueryKind::AttributesOf] {
+            let asked = format!("{}, first tag", called(kind));
+            line(name, &asked, document, &query(kind, &first), 64, TIMES);
+        }
+    });
 }
 
 fn main() {
-    println!("| document | query | events | rows | ours ms | Rust ms | ratio |");
-    println!("|---|---|---|---|---|---|---|");
-    let names = ["packages14", "names20k-once", "names20k-x8"];
-    table::each(&names, |name, document| {
-        let (common, late) = names_in(document);
-        let mut parser = AbxParser::new(document).unwrap();
-        let spare = table::read(document, || parser.next_event().unwrap()).most_rows;
-        for kind in [
-            QueryKind::FindAllAttributes,
-            QueryKind::AllAttributesOf,
-            QueryKind::FindAttribute,
-        ] {
-            let [element, attribute] = match kind {
-                QueryKind::FindAttribute => &late,
-                _ => &common,
-            };
-            let query = Query {
-                kind,
-                element: element.clone().into_bytes(),
-                name: attribute.clone().into_bytes(),
-            };
-            measure(name, document, &query, spare);
-        }
-    });
+    long();
+    println!();
+    short();
 }

@@ -12,7 +12,7 @@ use crate::{Event, Result};
 /// Reads the events of a document in memory.
 ///
 /// As an iterator it gives each event, and ends after the first error. [`next_event`](Self::next_event) stays where it is on an
-/// error, and gives it again. A query takes 0.6 MB of stack.
+/// error, and gives it again. A query takes up to 0.6 MB of stack.
 ///
 /// ```
 /// use abx::{AbxParser, Event};

@@ -9,6 +9,7 @@ use lib.Dec.{ltb}
 use lib.ListN.{length, take, drop, getD, length-append, length-drop, List·getD-append, take-append-drop}
 use lib.Seq.{sets, take-all, sets-eq, length-sets, length-take-le, take-at, drop-at, getD-take}
 use Rattle.wire.specs.Refusal.{rowsFull, poolFull, badSize, badState}
+use Rattle.wire.specs.declared.Refusal.{Refusal}
 use Rattle.wire.specs.Token.{internedNew}
 use Rattle.grammar.specs.Grammar.{Span, Items, item, whole, lacks, stops, most, counted, countedName, after, event}
 use Rattle.grammar.specs.Added.{after-adds}
@@ -20,10 +21,10 @@ use Rattle.grammar.specs.Laws.{Agree, agree-event}
 use Rattle.grammar.specs.Stores.{sound-sets, pairs-length}
 use Rattle.slice_spec.specs.Slice.{Place, sizesBad, placeBad, itemsAt, tableAfter, placeAfter}
 use Rattle.slice_spec.specs.Queries.{Words, split, named, isElement, allNamed, firstNamed, picks, picked, Progress, past, kindOf, tableWith, writes, done, refused}
-use Rattle.slice_spec.specs.Bounds.{Fits}
+use Rattle.slice_spec.specs.Bounds.{Fits, fits}
 use Rattle.slice_spec.specs.Stored.{words-front}
 use Rattle.slice_spec.specs.Whole.{countedName-most, countedValue-most}
-use Rattle.slice_spec.specs.Turns.{Turn, passed, halted, passing, turnBy, turn, turnOrRefuse}
+use Rattle.slice_spec.specs.Turns.{Turn, passed, halted, passing, turnBy, turnOrRefuse}
 use Rattle.scanner.specs.declared.Pool.{Pool}
 use Rattle.wire.specs.Limits.{maxStore}
 use Rattle.scanner.specs.Keep.{Keepable}
@@ -31,7 +32,8 @@ use Rattle.scanner.proofs.Walk.{soundOf}
 use Rattle.scanner.proofs.Passes.{complete-ended}
 use Rattle.scanner.specs.declared.select.Query.{Query}
 use Rattle.scanner.specs.declared.select.Query.the-variants as Query
-use Rattle.scanner.specs.Select.{queryOf, takesOne, rowsOf, taken, chosen, asked, faultOf, Room, Whole, Handed, progress}
+use Rattle.scanner.specs.declared.select.Seen.the-variants as Seen
+use Rattle.scanner.specs.Select.{queryOf, takesOne, mostOf, rowsOf, taken, chosen, asked, Room, Whole, Handed, progress, seen, Sees, Tried, turned, unsure, inDoubt, uncountedBy, uncounted, turn-seen}
 
 -- ---- what the definition picks, and what the code takes
 
@@ -289,17 +291,15 @@ module _ (document : List ℕ) (p : Place) (table : List ℕ) (count added : ℕ
     unfolding asked
     asked-by T x e = ap (chosen q document element name) e
 
-    pub asked-few : length ws ≤ cond (takesOne q) 1 count
+    asked-few : length ws ≤ mostOf q count
     unfolding asked
     asked-few =
         let e : length (rowsOf (p .at) (tableWith p table ts) is) ≡ count = rows-count (p .at) (tableWith p table ts) is ∙ sym (w .rows-are) in
         rw (← e) (chosen-few document name q element (rowsOf (p .at) (tableWith p table ts) is))
 
-    -- 10, then 11
-    module _ (left : ℕ) where
-      pub no-fault : cond (takesOne q) 1 count ≤ left → added ≤ length table / 2 - p .names → 0 ≡ faultOf left (length ws) (length table / 2 - p .names) added
-      unfolding faultOf
-      no-fault a b = rw (le-ltb left (length ws) (omega (arith, asked-few)), le-ltb (length table / 2 - p .names) added b)
+    -- enough for all that could be taken
+    pub surely : (room written : ℕ) → ltb room (written + mostOf q count) ≡ false → written + length ws ≤ room
+    surely room written h = omega (arith, ltb-false room (written + mostOf q count) h, asked-few)
 
     module _ (rows : List ℕ) (events written len : ℕ) where
       abbrev g : Progress
@@ -308,58 +308,33 @@ module _ (document : List ℕ) (p : Place) (table : List ℕ) (count added : ℕ
       abbrev There : Turn
       There = passing g (kindOf is) len ts ws
 
-      few-rows : length rows / 8 < written + length ws → halted (refused rowsFull 0) g ≡ There
+      -- 10
+      pub few-rows : (number detail : ℕ) → ltb (length rows / 8) (written + length ws) ≡ true → number ≡ rowsFull → detail ≡ 0 → halted (refused number detail) g ≡ There
       unfolding passing
-      few-rows h = rw (lt-ltb (length rows / 8) (written + length ws) h)
+      few-rows number detail h e d = rw (h, e, d)
 
-      pub no-rows : (number detail : ℕ) → length rows / 8 < written → number ≡ rowsFull → detail ≡ 0 → halted (refused number detail) g ≡ There
-      no-rows number detail h e d = rw (e, d) (few-rows (omega arith))
-
-      module _ (enough : written ≤ length rows / 8) where
-        abbrev left : ℕ
-        left = length rows / 8 - written
-
+      module _ (fit : written + length ws ≤ length rows / 8) where
         abbrev free : ℕ
         free = length table / 2 - p .names
 
-        short-table : length ws ≤ left → free < added → halted (refused poolFull 0) g ≡ There
+        -- 11
+        pub short-table : (number detail : ℕ) → free < added → number ≡ poolFull → detail ≡ 0 → halted (refused number detail) g ≡ There
         unfolding passing
-        short-table a b =
-            rw (le-ltb (length rows / 8) (written + length ws) (omega arith), lt-ltb (length table) (2 * (p .names + length ts)) (omega (arith, w .as-many, w .names-fit)))
-
-        pub faulty : (number detail : ℕ) → number ≡ faultOf left (length ws) free added → (number ≡ 0 → ⊥) → detail ≡ 0 → halted (refused number detail) g ≡ There
-        unfolding faultOf
-        faulty number detail e ne d =
-            byTest (ltb left (length ws))
-            (λ a. let n : number ≡ rowsFull = rw a at e in rw (n, d) (few-rows (omega (arith, ltb-true left (length ws) a))))
-            (λ a. byTest (ltb free added)
-            (λ b. let n : number ≡ poolFull = rw (a, b) at e in rw (n, d) (short-table (ltb-false _ _ a) (ltb-true _ _ b)))
-            (λ b. let n : number ≡ 0 = rw (a, b) at e in absurd (ne n)))
-
-        pub faultless : (number : ℕ) → number ≡ faultOf left (length ws) free added → number ≡ 0 → (length ws ≤ left) × (added ≤ free)
-        unfolding faultOf
-        faultless number e z =
-            byTest (ltb left (length ws)) (λ a. let n : number ≡ rowsFull = rw a at e in absurd (ten (sym n ∙ z)))
-            (λ a. byTest (ltb free added) (λ b. let n : number ≡ poolFull = rw (a, b) at e in absurd (eleven (sym n ∙ z))) (λ b. (ltb-false _ _ a, ltb-false _ _ b)))
-          where
-            ten : rowsFull ≡ 0 → ⊥
-            ten h = omega arith
-
-            eleven : poolFull ≡ 0 → ⊥
-            eleven h = omega arith
+        short-table number detail h e d =
+            rw (le-ltb (length rows / 8) (written + length ws) fit, lt-ltb (length table) (2 * (p .names + length ts)) (omega (arith, w .as-many, w .names-fit)), e, d)
 
         pub pairs-room : added ≤ free → 2 * (p .names + added) ≤ length table
         pairs-room h = omega (arith, w .names-fit)
 
-        pub rows-room : length ws ≤ left → length rows < 18_446_744_073_709_551_616 → Room true (8 * written) (length ws) rows
-        rows-room h z = record { fits = λ _. omega arith; sized = z; counts = λ t. absurd (let k : _≡_ {A = ℕ} 0 1 = cc t in omega arith) }
+        pub rows-room : length rows < 18_446_744_073_709_551_616 → Room true (8 * written) (length ws) rows
+        rows-room z = record { fits = λ _. omega arith; sized = z; counts = λ t. absurd (let k : _≡_ {A = ℕ} 0 1 = cc t in omega arith) }
 
-        pub handed : (table′ rows′ : List ℕ) (kind n : ℕ) → length ws ≤ left → added ≤ free → Handed document p table table′ rows rows′ is written ws kind n
+        pub handed : (table′ rows′ : List ℕ) (kind n : ℕ) → added ≤ free → Handed document p table table′ rows rows′ is written ws kind n
             → passed kind n (record { place = record { at = p .at + len; names = p .names + added }; table = table′; rows = rows′; events = events + 1; written = written + n }) ≡ There
         unfolding passing past placeAfter tableAfter
-        handed table′ rows′ kind n a b x =
+        handed table′ rows′ kind n b x =
             rw (
-              le-ltb (length rows / 8) (written + length ws) (omega arith),
+              le-ltb (length rows / 8) (written + length ws) fit,
               le-ltb (length table) (2 * (p .names + length ts)) (omega (arith, w .as-many, w .names-fit)),
               x .kind-is,
               x .table-is,
@@ -370,92 +345,124 @@ module _ (document : List ℕ) (p : Place) (table : List ℕ) (count added : ℕ
 
 -- ---- the event at a place
 
-pub lent-small : (document : List ℕ) (p : Place) (table : List ℕ) → Fits p document table → length (take (length document - p .at) (drop (p .at) document)) ≤ maxStore
-lent-small document p table r =
-    let l = length-drop (p .at) document in
-    omega (arith, ap length (take-all (length document - p .at) (drop (p .at) document) (omega arith)), r .at-fits, r .document-small)
-
-module _ (q : Query) (element name document : List ℕ) (p : Place) (table rows : List ℕ) (events written : ℕ) where
+module _ (document : List ℕ) (p : Place) (table : List ℕ) where
   abbrev at-place : Items
   at-place = itemsAt p document table
 
-  abbrev so-far : Progress
-  so-far = progress (p .at) (p .names) table rows events written
+  -- what the code's answer says
+  pub sees-refused : (r : Refusal) → bad (r .number) (r .detail) ≡ seen document p table → Sees document p table (Seen.Refused r)
+  sees-refused r h = record { outcome-is = h; read-whole = λ rows added len e. absurd (let z : _≡_ {A = ℕ} 0 1 = cc e in omega arith) }
 
-  abbrev Turned : Turn
-  Turned = turnBy (queryOf q element name) document so-far at-place (outcome true at-place)
-
-  -- an event that is complete
-  turned-by : (n : ℕ) → outcome true at-place ≡ complete n → (x : Turn) → x ≡ passing so-far (kindOf at-place) n (adds (p .names) at-place) (asked q element name document p table at-place) → x ≡ Turned
-  unfolding turnBy
-  turned-by n o x h = h ∙ ap (passing so-far (kindOf at-place) n (adds (p .names) at-place)) (asked-writes q element name document so-far at-place) ∙ rw o
-
-  whole-by : Fits p document table → (n count added : ℕ) → outcome true at-place ≡ complete n → count ≡ Scan.count at-place → added ≡ length (adds (p .names) at-place)
-      → Whole document p table at-place count added
-  whole-by r n count added o c a = record {
-    ended = complete-ended true n at-place o;
-    rows-are = c;
-    as-many = a;
-    at-fits = r .at-fits;
-    names-fit = r .names-fit;
-    document-small = r .document-small;
-    table-small = r .table-small;
-  }
-
-  -- the event as the code lends it
-  abbrev Lent : Items
-  Lent = event (sound (p .names) table (length document)) (p .names) (take (length document - p .at) (drop (p .at) document))
-
-  lent-event : Lent ≡ at-place
-  unfolding itemsAt
-  lent-event =
-      ap (event (sound (p .names) table (length document)) (p .names)) (take-all (length document - p .at) (drop (p .at) document) (omega (arith, length-drop (p .at) document)))
-
-  -- what the first pass measured
-  module _ (r : Fits p document table) (m : Measure)
-      (e : m ≡ measure true (p .names) Lent) where
-    measured : m ≡ measure true (p .names) at-place
-    measured = e ∙ ap (measure true (p .names)) lent-event
-
-    result-is : m .result ≡ outcome true at-place
-    unfolding measure
-    result-is = ap (λ (x : Measure). x .result) measured
-
-    pub turned-incomplete : m .result ≡ incomplete → halted done so-far ≡ Turned
-    unfolding turnBy
-    turned-incomplete k = rw (sym result-is ∙ k)
-
-    pub turned-bad : (n d : ℕ) → m .result ≡ bad n d → halted (refused n d) so-far ≡ Turned
-    unfolding turnBy
-    turned-bad n d k = rw (sym result-is ∙ k)
-
-    module _ (n : ℕ) (k : m .result ≡ complete n) where
-      pub read-whole : Whole document p table at-place (m .rows) (m .added)
-      unfolding measure
-      read-whole = whole-by r n (m .rows) (m .added) (sym result-is ∙ k) (ap (λ (x : Measure). x .rows) measured) (ap (λ (x : Measure). x .added) measured)
-
-      pub turned-complete : (x : Turn) → x ≡ passing so-far (kindOf at-place) n (adds (p .names) at-place) (asked q element name document p table at-place) → x ≡ Turned
-      turned-complete x h = turned-by n (sym result-is ∙ k) x h
+  pub sees-end : incomplete ≡ seen document p table → Sees document p table Seen.End
+  sees-end h = record { outcome-is = h; read-whole = λ rows added len e. absurd (let z : _≡_ {A = ℕ} 0 1 = cc e in omega arith) }
 
   -- ---- what is checked first
 
-  abbrev All : Turn
-  All = turnOrRefuse (queryOf q element name) document so-far
-
-  pub refused-sizes : (number detail : ℕ) → sizesBad document table ≡ true → number ≡ badSize → detail ≡ 0 → halted (refused number detail) so-far ≡ All
-  unfolding turnOrRefuse
-  refused-sizes number detail a e d = rw (a, e, d)
+  pub seen-sizes : (number detail : ℕ) → sizesBad document table ≡ true → number ≡ badSize → detail ≡ 0 → bad number detail ≡ seen document p table
+  unfolding seen
+  seen-sizes number detail a e d = rw (a, e, d)
 
   module _ (a : sizesBad document table ≡ false) where
-    pub refused-place : (number detail : ℕ) → placeBad p document table ≡ true → number ≡ badState → detail ≡ 0 → halted (refused number detail) so-far ≡ All
-    unfolding turnOrRefuse
-    refused-place number detail b e d = rw (a, b, e, d)
+    pub seen-place : (number detail : ℕ) → placeBad p document table ≡ true → number ≡ badState → detail ≡ 0 → bad number detail ≡ seen document p table
+    unfolding seen
+    seen-place number detail b e d = rw (a, b, e, d)
 
     module _ (b : placeBad p document table ≡ false) where
-      pub at-end : p .at ≡ length document → halted done so-far ≡ All
-      unfolding turnOrRefuse turn
-      at-end e = rw (a, b, eq-eqb (p .at) (length document) e)
+      pub seen-end : p .at ≡ length document → incomplete ≡ seen document p table
+      unfolding seen
+      seen-end e = rw (a, b, eq-eqb (p .at) (length document) e)
 
-      pub goes : (p .at ≡ length document → ⊥) → (x : Turn) → x ≡ Turned → x ≡ All
-      unfolding turnOrRefuse turn
-      goes ne x e = e ∙ rw (a, b, ne-eqb (p .at) (length document) ne)
+      -- ---- the event itself, as the code lends it
+
+      abbrev r : Fits p document table
+      r = fits p document table a b
+
+      abbrev from-there : List ℕ
+      from-there = take (length document - p .at) (drop (p .at) document)
+
+      pub lent-small : length from-there ≤ maxStore
+      lent-small =
+          let l = length-drop (p .at) document in
+          omega (arith, ap length (take-all (length document - p .at) (drop (p .at) document) (omega arith)), r .at-fits, r .document-small)
+
+      pub names-fit : 2 * p .names ≤ length table
+      names-fit = r .names-fit
+
+      lent-event : event (sound (p .names) table (length document)) (p .names) from-there ≡ at-place
+      unfolding itemsAt
+      lent-event =
+          ap (event (sound (p .names) table (length document)) (p .names)) (take-all (length document - p .at) (drop (p .at) document) (omega (arith, length-drop (p .at) document)))
+
+      module _ (ne : p .at ≡ length document → ⊥) (m : Measure) (e : m ≡ measure true (p .names) (event (sound (p .names) table (length document)) (p .names) from-there)) where
+        measured : m ≡ measure true (p .names) at-place
+        measured = e ∙ ap (measure true (p .names)) lent-event
+
+        result-is : m .result ≡ outcome true at-place
+        unfolding measure
+        result-is = ap (λ (x : Measure). x .result) measured
+
+        pub seen-goes : m .result ≡ seen document p table
+        unfolding seen
+        seen-goes = result-is ∙ rw (a, b, ne-eqb (p .at) (length document) ne)
+
+        whole-at : (n : ℕ) → m .result ≡ complete n → Whole document p table at-place (m .rows) (m .added)
+        unfolding measure
+        whole-at n k = record {
+          ended = complete-ended true n at-place (sym result-is ∙ k);
+          rows-are = ap (λ (x : Measure). x .rows) measured;
+          as-many = ap (λ (x : Measure). x .added) measured;
+          at-fits = r .at-fits;
+          names-fit = r .names-fit;
+          document-small = r .document-small;
+          table-small = r .table-small;
+        }
+
+        pub sees-whole : (n : ℕ) → m .result ≡ complete n → Sees document p table (Seen.Whole (m .rows) (m .added) n)
+        sees-whole n k = record {
+          outcome-is = sym k ∙ seen-goes;
+          read-whole = λ rows added len h. let x : m .rows ≡ rows = cc h in let y : m .added ≡ added = cc h in rw (← x, ← y) (whole-at n k);
+        }
+
+-- ---- what was seen, picked
+
+module _ (q : Query) (element name document : List ℕ) (p : Place) (table rows : List ℕ) (events written : ℕ) where
+  abbrev so-far : Progress
+  so-far = progress (p .at) (p .names) table rows events written
+
+  abbrev here : Items
+  here = itemsAt p document table
+
+  abbrev passing-by : ℕ → Turn
+  passing-by n = passing so-far (kindOf here) n (adds (p .names) here) (asked q element name document p table here)
+
+  -- an event that is complete
+  passing-is : (n : ℕ) → passing-by n ≡ turnBy (queryOf q element name) document so-far here (complete n)
+  unfolding turnBy
+  passing-is n = ap (passing so-far (kindOf here) n (adds (p .names) here)) (asked-writes q element name document so-far here)
+
+  pub picked-whole : (n : ℕ) → complete n ≡ seen document p table → (x : Turn) → x ≡ passing-by n → x ≡ turnOrRefuse (queryOf q element name) document so-far
+  picked-whole n o x h =
+      h ∙ passing-is n ∙ ap (turnBy (queryOf q element name) document so-far here) o ∙ turn-seen document so-far (queryOf q element name)
+
+  pub picked-end : incomplete ≡ seen document p table → halted done so-far ≡ turnOrRefuse (queryOf q element name) document so-far
+  unfolding turnBy
+  picked-end o = ap (turnBy (queryOf q element name) document so-far here) o ∙ turn-seen document so-far (queryOf q element name)
+
+  pub picked-refused : (n d : ℕ) → bad n d ≡ seen document p table → halted (refused n d) so-far ≡ turnOrRefuse (queryOf q element name) document so-far
+  unfolding turnBy
+  picked-refused n d o = ap (turnBy (queryOf q element name) document so-far here) o ∙ turn-seen document so-far (queryOf q element name)
+
+  -- the same without counting
+
+  pub uncounted-whole : (n count : ℕ) → complete n ≡ seen document p table → count ≡ Scan.count here
+      → (x : Tried) → x ≡ cond (inDoubt (length rows / 8) written (mostOf q count)) (unsure so-far) (turned (passing-by n)) → x ≡ uncounted q element name document so-far
+  unfolding uncounted uncountedBy
+  uncounted-whole n count o k x h = h ∙ rw (← o, k, passing-is n)
+
+  pub uncounted-end : incomplete ≡ seen document p table → turned (halted done so-far) ≡ uncounted q element name document so-far
+  unfolding uncounted uncountedBy turnBy
+  uncounted-end o = rw (← o)
+
+  pub uncounted-refused : (n d : ℕ) → bad n d ≡ seen document p table → turned (halted (refused n d) so-far) ≡ uncounted q element name document so-far
+  unfolding uncounted uncountedBy turnBy
+  uncounted-refused n d o = rw (← o)

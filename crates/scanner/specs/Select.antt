@@ -1,25 +1,31 @@
 -- One event of a query: which of its rows are taken, and what the code's answer says in the terms of the definition.
 use mathlib.Core.Bool.{Bool, true, false, _||_, cond}
 use mathlib.Core.List.{List, [], _∷_, _++_}
-use mathlib.Core.Path.{_≡_}
-use Prim.Native.Nat.{ℕ, _+_, _*_, _≤_, _<_}
+use mathlib.Core.Path.{_≡_, _∙_}
+use Prim.Native.Nat.{ℕ, _+_, _*_, _/_, _≤_, _<_}
+use native.Mathlib.Omega.{arith}
 use lib.ListN.{length}
 use lib.Seq.{sets}
-use lib.Dec.{ltb}
-use Rattle.wire.specs.Refusal.{rowsFull, poolFull}
+use lib.Dec.{ltb, eqb}
+use Rattle.wire.specs.Refusal.{badSize, badState}
 use Rattle.wire.specs.Limits.{maxStore, maxTable}
 use Rattle.scanner.specs.Keep.{Ended}
 use Rattle.grammar.specs.Grammar.{Items, item, whole, lacks, stops}
-use Rattle.grammar.specs.Scan.{itemWords, adds, pairs}
+use Rattle.grammar.specs.Scan.{itemWords, adds, pairs, Outcome, complete, incomplete, bad, outcome}
 use Rattle.grammar.specs.Scan as Scan
+use Rattle.grammar.specs.Choice.{byTest}
 use Rattle.slice_spec.specs.Queries as Defined
 use Rattle.slice_spec.specs.Queries.{Words, named, isElement, concat, Progress, done, refused, tableWith}
-use Rattle.slice_spec.specs.Slice.{Place}
-use Rattle.slice_spec.specs.Turns.{Turn, passed, halted}
+use Rattle.slice_spec.specs.Slice.{Place, sizesBad, placeBad, itemsAt}
+use Rattle.slice_spec.specs.Turns.{Turn, passed, halted, turnBy, turn, turnOrRefuse}
 use Rattle.scanner.specs.declared.select.Query.{Query}
 use Rattle.scanner.specs.declared.select.Query.the-variants as Query
 use Rattle.scanner.specs.declared.select.Picked.{Picked}
 use Rattle.scanner.specs.declared.select.Picked.the-variants as Picked
+use Rattle.scanner.specs.declared.select.Uncounted.{Uncounted}
+use Rattle.scanner.specs.declared.select.Uncounted.the-variants as Uncounted
+use Rattle.scanner.specs.declared.select.Seen.{Seen}
+use Rattle.scanner.specs.declared.select.Seen.the-variants as Seen
 
 -- ---- the query
 
@@ -42,6 +48,10 @@ takesOne Query.FindAttribute = true
 takesOne Query.AttributesOf = false
 takesOne Query.FindAllAttributes = false
 takesOne Query.AllAttributesOf = false
+
+-- no more rows than these are taken of an event of so many
+abbrev pub mostOf : Query → ℕ → ℕ
+mostOf q count = cond (takesOne q) 1 count
 
 -- ---- rows that are taken
 
@@ -95,10 +105,6 @@ turnOf g table rows (Picked.Refused r) = halted (refused (r .number) (r .detail)
 unfoldable pub asked : Query → List ℕ → List ℕ → List ℕ → Place → List ℕ → Items → List Words
 asked q element name document p table is = chosen q document element name (rowsOf (p .at) (tableWith p table (adds (p .names) is)) is)
 
--- the number of the refusal of an event that was read whole; 0: none
-unfoldable pub faultOf : ℕ → ℕ → ℕ → ℕ → ℕ
-faultOf left n pairs added = cond (ltb left n) rowsFull (cond (ltb pairs added) poolFull 0)
-
 -- what holds of an event that was read whole: it is handed over with its rows, new names and bytes
 pub record Whole (document : List ℕ) (p : Place) (table : List ℕ) (is : Items) (count added : ℕ) : Type 0 where
   pub ended : Ended is
@@ -114,3 +120,83 @@ pub record Handed (document : List ℕ) (p : Place) (table table′ rows rows′
   pub chose : Chose true (8 * written) ws rows rows′ n
   pub kind-is : kind ≡ Defined.kindOf is
   pub table-is : table′ ≡ sets table (2 * p .names) (pairs (p .at) (adds (p .names) is))
+
+-- ---- the event at a place
+
+-- what lies there, with 17 and 19 before it; nothing is complete at the document's end
+unfoldable pub seen : List ℕ → Place → List ℕ → Outcome
+seen document p table =
+    cond (sizesBad document table) (bad badSize 0)
+    (cond (placeBad p document table) (bad badState 0)
+    (cond (eqb (p .at) (length document)) incomplete (outcome true (itemsAt p document table))))
+
+abbrev pub seenOf : Seen → Outcome
+seenOf (Seen.Whole rows added len) = complete len
+seenOf Seen.End = incomplete
+seenOf (Seen.Refused r) = bad (r .number) (r .detail)
+
+pub record Sees (document : List ℕ) (p : Place) (table : List ℕ) (r : Seen) : Type 0 where
+  pub outcome-is : seenOf r ≡ seen document p table
+  pub read-whole : (rows added len : ℕ) → r ≡ Seen.Whole rows added len → Whole document p table (itemsAt p document table) rows added
+
+-- ---- without counting
+
+-- a turn; or the rows left are fewer than could be taken, and nothing was done
+pub data Tried : Type 0 where
+  turned : Turn → Tried
+  unsure : Progress → Tried
+
+abbrev pub uncountedOf : Progress → List ℕ → List ℕ → Uncounted → Tried
+uncountedOf g table rows (Uncounted.Picked p) = turned (turnOf g table rows p)
+uncountedOf g table rows Uncounted.Unsure = unsure (stays g table rows)
+
+-- the rows left are fewer than could be taken; where more were written than there are, it is 10 whatever is taken
+abbrev pub inDoubt : ℕ → ℕ → ℕ → Bool
+inDoubt room written most = cond (ltb room written) false (ltb room (written + most))
+
+unfoldable pub uncountedBy : Query → List ℕ → List ℕ → List ℕ → Progress → Items → Outcome → Tried
+uncountedBy q element name document g is (complete n) =
+    cond (inDoubt (length (g .rows) / 8) (g .written) (mostOf q (Scan.count is))) (unsure g) (turned (turnBy (queryOf q element name) document g is (complete n)))
+uncountedBy q element name document g is incomplete = turned (turnBy (queryOf q element name) document g is incomplete)
+uncountedBy q element name document g is (bad n d) = turned (turnBy (queryOf q element name) document g is (bad n d))
+
+unfoldable pub uncounted : Query → List ℕ → List ℕ → List ℕ → Progress → Tried
+uncounted q element name document g = uncountedBy q element name document g (itemsAt (g .place) document (g .table)) (seen document (g .place) (g .table))
+
+-- ---- its laws
+
+module _ (document : List ℕ) (g : Progress) where
+  pub turn-seen : (q : Defined.Query) → turnBy q document g (itemsAt (g .place) document (g .table)) (seen document (g .place) (g .table)) ≡ turnOrRefuse q document g
+  unfolding seen turnOrRefuse turn turnBy
+  turn-seen q =
+      byTest (sizesBad document (g .table)) (λ a. rw a) (λ a. rw a
+      (byTest (placeBad (g .place) document (g .table)) (λ b. rw b) (λ b. rw b
+      (byTest (eqb (g .place .at) (length document)) (λ e. rw e) (λ e. rw e)))))
+
+  module _ (q : Query) (element name : List ℕ) where
+    turned-by : (is : Items) (o : Outcome) (t : Turn) → turned t ≡ uncountedBy q element name document g is o → t ≡ turnBy (queryOf q element name) document g is o
+    unfolding uncountedBy
+    turned-by is (complete n) t h =
+        byTest (inDoubt (length (g .rows) / 8) (g .written) (mostOf q (Scan.count is)))
+        (λ a. let y = rw a at h in let z : _≡_ {A = ℕ} 0 1 = cc y in absurd (omega arith))
+        (λ a. let y = rw a at h in cc y)
+    turned-by is incomplete t h = cc h
+    turned-by is (bad n d) t h = cc h
+
+    unsure-by : (is : Items) (o : Outcome) (g′ : Progress) → unsure g′ ≡ uncountedBy q element name document g is o → g′ ≡ g
+    unfolding uncountedBy
+    unsure-by is (complete n) g′ h =
+        byTest (inDoubt (length (g .rows) / 8) (g .written) (mostOf q (Scan.count is)))
+        (λ a. let y = rw a at h in cc y)
+        (λ a. let y = rw a at h in let z : _≡_ {A = ℕ} 0 1 = cc y in absurd (omega arith))
+    unsure-by is incomplete g′ h = let z : _≡_ {A = ℕ} 0 1 = cc h in absurd (omega arith)
+    unsure-by is (bad n d) g′ h = let z : _≡_ {A = ℕ} 0 1 = cc h in absurd (omega arith)
+
+    -- a turn is the one of the definition; else all is as it was
+    pub turned-is : (t : Turn) → turned t ≡ uncounted q element name document g → t ≡ turnOrRefuse (queryOf q element name) document g
+    unfolding uncounted
+    turned-is t h = turned-by _ _ t h ∙ turn-seen (queryOf q element name)
+
+    pub unsure-is : (g′ : Progress) → unsure g′ ≡ uncounted q element name document g → g′ ≡ g
+    unfolding uncounted
+    unsure-is g′ h = unsure-by _ _ g′ h

@@ -10,17 +10,17 @@ ghost use mathlib.Core.List.{[], _∷_};
 ghost use mathlib.Core.Path.{_≡_};
 ghost use Prim.Native.Nat.{ℕ, _+_, _*_, _-_, _/_, _≤_, _<_};
 ghost use lib.ListN.{length};
+ghost use lib.Dec.{ltb};
 ghost use lib.Seq.{sets};
 ghost use Rattle.wire.specs.Token.{builtIn};
 ghost use Rattle.grammar.specs.Grammar.{attributesF, event};
-ghost use Rattle.grammar.specs.Scan.{sound, itemWords, adds, pairs, outcome};
+ghost use Rattle.grammar.specs.Scan.{sound, itemWords, adds, pairs};
 ghost use Rattle.slice_spec.specs.Queries.{named, isElement, kindOf};
 ghost use Rattle.scanner.specs.Answers.{itemOf};
 ghost use Rattle.scanner.specs.Keep.{ItemPlaced, Keepable};
 ghost use Rattle.slice_spec.specs.Slice.{itemsAt};
-ghost use Rattle.slice_spec.specs.Bounds.{Fits};
-ghost use Rattle.slice_spec.specs.Turns.{passing, turnBy, turnOrRefuse};
-ghost use Rattle.scanner.specs.Select.{queryOf, asked, faultOf, Whole, Handed, progress, turnOf, takesAll, takesOne, taken, chosen, rowsOf, Room, Chose};
+ghost use Rattle.slice_spec.specs.Turns.{passing, turnOrRefuse};
+ghost use Rattle.scanner.specs.Select.{queryOf, asked, mostOf, Whole, Handed, progress, turnOf, turned, unsure, uncountedOf, inDoubt, uncounted, Sees, takesAll, takesOne, taken, chosen, rowsOf, Room, Chose};
 
 // What is asked for: attributes of a name, of elements of a name; or such elements with all their attributes.
 pub enum Query {
@@ -37,6 +37,23 @@ pub enum Picked {
         len: usize,
         added: usize,
         rows: usize,
+    },
+    End,
+    Refused(Refusal),
+}
+
+// What is picked without counting; or only counting tells whether the rows left are enough.
+pub enum Uncounted {
+    Picked(Picked),
+    Unsure,
+}
+
+// What lies at a place: an event of so many rows, new names and bytes, or the end.
+enum Seen {
+    Whole {
+        rows: usize,
+        added: usize,
+        len: usize,
     },
     End,
     Refused(Refusal),
@@ -357,57 +374,12 @@ fn count_taken(
 
 // No more rows than these are taken of an event of so many.
 fn most_taken(query: Query, count: usize) -> usize
-    ensures { λ r. ⌜ r ≡ cond (takesOne query) 1 count ⌝ }
+    ensures { λ r. ⌜ r ≡ mostOf query count ⌝ }
 {
     if takes_one(query) {
         return 1;
     }
     count
-}
-
-// The number of the refusal, where so many rows are left; 0: none. What is taken is counted only where it matters.
-fn fault(
-    query: Query,
-    element: &[u8],
-    name: &[u8],
-    document: &[u8],
-    at: usize,
-    names: usize,
-    tokens: &[u16; 256],
-    table: &[u32],
-    count: usize,
-    added: usize,
-    left: usize,
-) -> u32
-    requires { ⌜ now tokens ≡ builtIn ⌝ }
-    requires { ⌜ Whole (now document) (record { at = at; names = names }) (now table) (itemsAt (record { at = at; names = names }) (now document) (now table)) count added ⌝ }
-    ensures { λ r. ⌜ r ≡ faultOf left (length (asked query (now (element .entry)) (now (name .entry)) (now (document .entry)) (record { at = at; names = names }) (now (table .entry)) (itemsAt (record { at = at; names = names }) (now (document .entry)) (now (table .entry))))) (length (now (table .entry)) / 2 - names) added ⌝ }
-{
-    let pairs = table.len() / 2 - names;
-    if most_taken(query, count) <= left {
-        if added <= pairs {
-            return 0;
-        }
-    }
-    let n = count_taken(
-        query,
-        element,
-        name,
-        document,
-        at,
-        names,
-        tokens,
-        table,
-        count,
-        added,
-    );
-    if left < n {
-        return Refusal::ROWS_FULL;
-    }
-    if pairs < added {
-        return Refusal::POOL_FULL;
-    }
-    0
 }
 
 // The event's new names are stored; where it adds none, it is not walked.
@@ -473,8 +445,18 @@ fn hand_out(
     )
 }
 
-// 10, then 11, else the event is handed out.
-fn pick_read(
+// Whether fewer rows are left than these.
+fn is_short(room: usize, written: usize, n: usize) -> bool
+    ensures { λ r. ⌜ r ≡ ltb room (written + n) ⌝ }
+{
+    if room < written {
+        return true;
+    }
+    room - written < n
+}
+
+// The rows that are taken have room: 11, else the event is handed out.
+fn pick_fitting(
     query: Query,
     element: &[u8],
     name: &[u8],
@@ -491,27 +473,11 @@ fn pick_read(
 ) -> Picked
     requires { ⌜ now tokens ≡ builtIn ⌝ }
     requires { ⌜ Whole (now document) (record { at = at; names = names }) (now table) (itemsAt (record { at = at; names = names }) (now document) (now table)) count added ⌝ }
+    requires { ⌜ written + length (asked query (now element) (now name) (now document) (record { at = at; names = names }) (now table) (itemsAt (record { at = at; names = names }) (now document) (now table))) ≤ length (now rows) / 8 ⌝ }
     ensures { λ r. ⌜ ((events : ℕ) → turnOf (progress at names (now (table .entry)) (now (rows .entry)) events written) (now (table .exit)) (now (rows .exit)) r ≡ passing (progress at names (now (table .entry)) (now (rows .entry)) events written) (kindOf (itemsAt (record { at = at; names = names }) (now (document .entry)) (now (table .entry)))) len (adds names (itemsAt (record { at = at; names = names }) (now (document .entry)) (now (table .entry)))) (asked query (now (element .entry)) (now (name .entry)) (now (document .entry)) (record { at = at; names = names }) (now (table .entry)) (itemsAt (record { at = at; names = names }) (now (document .entry)) (now (table .entry))))) ⌝ }
 {
-    let room = rows.len() / 8;
-    if room < written {
-        return Picked::Refused(Refusal::new(Refusal::ROWS_FULL));
-    }
-    let number = fault(
-        query,
-        element,
-        name,
-        document,
-        at,
-        names,
-        tokens,
-        table,
-        count,
-        added,
-        room - written,
-    );
-    if number != 0 {
-        return Picked::Refused(Refusal::new(number));
+    if table.len() / 2 - names < added {
+        return Picked::Refused(Refusal::new(Refusal::POOL_FULL));
     }
     let took = hand_out(
         query,
@@ -535,8 +501,177 @@ fn pick_read(
     }
 }
 
-// The event at a place before the document's end.
-fn pick_at(
+// 10, where more rows were written than there are; else the event is handed out where the rows left are enough, whatever is taken.
+fn pick_surely(
+    query: Query,
+    element: &[u8],
+    name: &[u8],
+    document: &[u8],
+    at: usize,
+    names: usize,
+    tokens: &[u16; 256],
+    table: &mut [u32],
+    rows: &mut [u32],
+    written: usize,
+    count: usize,
+    added: usize,
+    len: usize,
+) -> Uncounted
+    requires { ⌜ now tokens ≡ builtIn ⌝ }
+    requires { ⌜ Whole (now document) (record { at = at; names = names }) (now table) (itemsAt (record { at = at; names = names }) (now document) (now table)) count added ⌝ }
+    ensures { λ r. ⌜ ((events : ℕ) → uncountedOf (progress at names (now (table .entry)) (now (rows .entry)) events written) (now (table .exit)) (now (rows .exit)) r ≡ cond (inDoubt (length (now (rows .entry)) / 8) written (mostOf query count)) (unsure (progress at names (now (table .entry)) (now (rows .entry)) events written)) (turned (passing (progress at names (now (table .entry)) (now (rows .entry)) events written) (kindOf (itemsAt (record { at = at; names = names }) (now (document .entry)) (now (table .entry)))) len (adds names (itemsAt (record { at = at; names = names }) (now (document .entry)) (now (table .entry)))) (asked query (now (element .entry)) (now (name .entry)) (now (document .entry)) (record { at = at; names = names }) (now (table .entry)) (itemsAt (record { at = at; names = names }) (now (document .entry)) (now (table .entry))))))) ⌝ }
+{
+    let room = rows.len() / 8;
+    if room < written {
+        return Uncounted::Picked(Picked::Refused(Refusal::new(Refusal::ROWS_FULL)));
+    }
+    if is_short(room, written, most_taken(query, count)) {
+        return Uncounted::Unsure;
+    }
+    Uncounted::Picked(pick_fitting(
+        query,
+        element,
+        name,
+        document,
+        at,
+        names,
+        tokens,
+        table,
+        rows,
+        written,
+        count,
+        added,
+        len,
+    ))
+}
+
+// The rows that those left are held against: as many as could be taken, or where these have no room, as many as are taken.
+fn count_at_need(
+    query: Query,
+    element: &[u8],
+    name: &[u8],
+    document: &[u8],
+    at: usize,
+    names: usize,
+    tokens: &[u16; 256],
+    table: &[u32],
+    room: usize,
+    written: usize,
+    count: usize,
+    added: usize,
+) -> usize
+    requires { ⌜ now tokens ≡ builtIn ⌝ }
+    requires { ⌜ Whole (now document) (record { at = at; names = names }) (now table) (itemsAt (record { at = at; names = names }) (now document) (now table)) count added ⌝ }
+    ensures { λ r. ⌜ ltb room (written + r) ≡ ltb room (written + length (asked query (now (element .entry)) (now (name .entry)) (now (document .entry)) (record { at = at; names = names }) (now (table .entry)) (itemsAt (record { at = at; names = names }) (now (document .entry)) (now (table .entry))))) ⌝ }
+{
+    let most = most_taken(query, count);
+    if is_short(room, written, most) {
+        return count_taken(
+            query,
+            element,
+            name,
+            document,
+            at,
+            names,
+            tokens,
+            table,
+            count,
+            added,
+        );
+    }
+    most
+}
+
+// What is taken is counted where it matters: 10, then 11, else the event is handed out.
+fn pick_counted(
+    query: Query,
+    element: &[u8],
+    name: &[u8],
+    document: &[u8],
+    at: usize,
+    names: usize,
+    tokens: &[u16; 256],
+    table: &mut [u32],
+    rows: &mut [u32],
+    written: usize,
+    count: usize,
+    added: usize,
+    len: usize,
+) -> Picked
+    requires { ⌜ now tokens ≡ builtIn ⌝ }
+    requires { ⌜ Whole (now document) (record { at = at; names = names }) (now table) (itemsAt (record { at = at; names = names }) (now document) (now table)) count added ⌝ }
+    ensures { λ r. ⌜ ((events : ℕ) → turnOf (progress at names (now (table .entry)) (now (rows .entry)) events written) (now (table .exit)) (now (rows .exit)) r ≡ passing (progress at names (now (table .entry)) (now (rows .entry)) events written) (kindOf (itemsAt (record { at = at; names = names }) (now (document .entry)) (now (table .entry)))) len (adds names (itemsAt (record { at = at; names = names }) (now (document .entry)) (now (table .entry)))) (asked query (now (element .entry)) (now (name .entry)) (now (document .entry)) (record { at = at; names = names }) (now (table .entry)) (itemsAt (record { at = at; names = names }) (now (document .entry)) (now (table .entry))))) ⌝ }
+{
+    let room = rows.len() / 8;
+    let n = count_at_need(
+        query,
+        element,
+        name,
+        document,
+        at,
+        names,
+        tokens,
+        table,
+        room,
+        written,
+        count,
+        added,
+    );
+    if is_short(room, written, n) {
+        return Picked::Refused(Refusal::new(Refusal::ROWS_FULL));
+    }
+    pick_fitting(
+        query,
+        element,
+        name,
+        document,
+        at,
+        names,
+        tokens,
+        table,
+        rows,
+        written,
+        count,
+        added,
+        len,
+    )
+}
+
+// ---- the event at a place
+
+fn see(document: &[u8], at: usize, names: usize, tokens: &[u16; 256], table: &[u32]) -> Seen
+    requires { ⌜ now tokens ≡ builtIn ⌝ }
+    ensures { λ r. ⌜ Sees (now (document .entry)) (record { at = at; names = names }) (now (table .entry)) r ⌝ }
+{
+    if slice_bounds::sizes_bad(document, table) {
+        return Seen::Refused(Refusal::new(Refusal::BAD_SIZE));
+    }
+    if slice_bounds::place_bad(at, names, document, table) {
+        return Seen::Refused(Refusal::new(Refusal::BAD_STATE));
+    }
+    if at == document.len() {
+        return Seen::End;
+    }
+    let pool = Pool {
+        kept: names,
+        stored: document.len(),
+        names,
+    };
+    let m = crate::measure(&document[at..], true, tokens, table, pool);
+    let outcome = m.outcome;
+    match outcome {
+        Outcome::Incomplete => Seen::End,
+        Outcome::Bad(r) => Seen::Refused(r),
+        Outcome::Complete(len) => Seen::Whole {
+            rows: m.rows,
+            added: m.added,
+            len,
+        },
+    }
+}
+
+// As pick, but nothing is counted: counting takes a large frame, which costs a short query most of its time.
+pub fn pick_uncounted(
     query: Query,
     element: &[u8],
     name: &[u8],
@@ -546,22 +681,16 @@ fn pick_at(
     table: &mut [u32],
     rows: &mut [u32],
     written: usize,
-) -> Picked
-    requires { ⌜ Fits (record { at = at; names = names }) (now document) (now table) ⌝ }
-    ensures { λ r. ⌜ ((events : ℕ) → turnOf (progress at names (now (table .entry)) (now (rows .entry)) events written) (now (table .exit)) (now (rows .exit)) r ≡ turnBy (queryOf query (now (element .entry)) (now (name .entry))) (now (document .entry)) (progress at names (now (table .entry)) (now (rows .entry)) events written) (itemsAt (record { at = at; names = names }) (now (document .entry)) (now (table .entry))) (outcome true (itemsAt (record { at = at; names = names }) (now (document .entry)) (now (table .entry))))) ⌝ }
+) -> Uncounted
+    ensures { λ r. ⌜ ((events : ℕ) → uncountedOf (progress at names (now (table .entry)) (now (rows .entry)) events written) (now (table .exit)) (now (rows .exit)) r ≡ uncounted query (now (element .entry)) (now (name .entry)) (now (document .entry)) (progress at names (now (table .entry)) (now (rows .entry)) events written)) ⌝ }
 {
     let tokens = wire::tokens::built_in();
-    let pool = Pool {
-        kept: names,
-        stored: document.len(),
-        names,
-    };
-    let m = crate::measure(&document[at..], true, &tokens, table, pool);
-    let outcome = m.outcome;
-    match outcome {
-        Outcome::Incomplete => Picked::End,
-        Outcome::Bad(r) => Picked::Refused(r),
-        Outcome::Complete(len) => pick_read(
+    match see(document, at, names, &tokens, table) {
+        Seen::Whole {
+            rows: count,
+            added,
+            len,
+        } => pick_surely(
             query,
             element,
             name,
@@ -572,10 +701,12 @@ fn pick_at(
             table,
             rows,
             written,
-            m.rows,
-            m.added,
+            count,
+            added,
             len,
         ),
+        Seen::End => Uncounted::Picked(Picked::End),
+        Seen::Refused(r) => Uncounted::Picked(Picked::Refused(r)),
     }
 }
 
@@ -593,24 +724,28 @@ pub fn pick(
 ) -> Picked
     ensures { λ r. ⌜ ((events : ℕ) → turnOf (progress at names (now (table .entry)) (now (rows .entry)) events written) (now (table .exit)) (now (rows .exit)) r ≡ turnOrRefuse (queryOf query (now (element .entry)) (now (name .entry))) (now (document .entry)) (progress at names (now (table .entry)) (now (rows .entry)) events written)) ⌝ }
 {
-    if slice_bounds::sizes_bad(document, table) {
-        return Picked::Refused(Refusal::new(Refusal::BAD_SIZE));
+    let tokens = wire::tokens::built_in();
+    match see(document, at, names, &tokens, table) {
+        Seen::Whole {
+            rows: count,
+            added,
+            len,
+        } => pick_counted(
+            query,
+            element,
+            name,
+            document,
+            at,
+            names,
+            &tokens,
+            table,
+            rows,
+            written,
+            count,
+            added,
+            len,
+        ),
+        Seen::End => Picked::End,
+        Seen::Refused(r) => Picked::Refused(r),
     }
-    if slice_bounds::place_bad(at, names, document, table) {
-        return Picked::Refused(Refusal::new(Refusal::BAD_STATE));
-    }
-    if at == document.len() {
-        return Picked::End;
-    }
-    pick_at(
-        query,
-        element,
-        name,
-        document,
-        at,
-        names,
-        table,
-        rows,
-        written,
-    )
 }

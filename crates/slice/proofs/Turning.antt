@@ -1,8 +1,8 @@
 -- A query, turn by turn: what is still to come from where it stands is the whole answer.
 use mathlib.Core.Bool.{true, false}
 use mathlib.Core.List.{List, []}
-use mathlib.Core.Path.{_≡_, refl, sym, ap}
-use Prim.Native.Nat.{ℕ, zero, suc, _+_, _*_, _/_, _≤_}
+use mathlib.Core.Path.{_≡_, refl, sym, ap, _∙_}
+use Prim.Native.Nat.{ℕ, zero, suc, _+_, _*_, _-_, _/_, _≤_, _<_}
 use native.Mathlib.Omega.{arith}
 use borrow.Author.Tests.{le-ltb, ltb-false, eq-eqb}
 use lib.Dec.{ltb, eqb}
@@ -14,11 +14,17 @@ use Rattle.grammar.specs.Outcomes.{ends-within}
 use Rattle.grammar.specs.Scan.{sound, pairs, Outcome, complete, incomplete, bad, outcome}
 use Rattle.grammar.specs.Choice.{byTest, neither}
 use Rattle.slice_spec.specs.Slice.{Place, sizesBad, placeBad, itemsAt, tableAfter, placeAfter}
-use Rattle.slice_spec.specs.Queries.{Query, Words, Ending, found, done, on, stop, Progress, Left, ends, concat, past, byStep, queryF, query}
+use Rattle.slice_spec.specs.Queries.{Query, Words, Ending, found, done, Step, on, stop, Progress, Left, ends, concat, past, byStep, queryF, query}
 use Rattle.slice_spec.specs.Answers.{begun}
-use Rattle.slice_spec.specs.Turns.{passed, halted, passing, turnBy, turn, turnOrRefuse, singleBy, afterBy, byTurn, query-turn}
-use Rattle.slice.specs.Answers.{leaves}
+use Rattle.slice_spec.specs.Turns.{Turn, passed, halted, passing, turnBy, turn, turnOrRefuse, singleBy, afterBy, byTurn, query-turn}
+use Rattle.scanner.specs.Select.{turnOf}
+use Rattle.scanner.specs.declared.select.Picked.{Picked}
+use Rattle.slice.specs.Answers.{stepOf, reachedOf, leftOf}
+use Rattle.slice.specs.Going.{Addable, Stepped, passedOf, stepBy, stops, endOf, Going, Asks}
 use Rattle.slice.specs.declared.queries.Reached.{Reached}
+use Rattle.slice.specs.declared.queries.Queried.{Queried}
+use Rattle.slice.specs.declared.queries.Passed.{Passed}
+use Rattle.slice.specs.declared.queries.Asked.the-variants as Asked
 
 -- an event was consumed: what held before, and where that leads
 pub record Moved (document : List ℕ) (g g′ : Progress) : Type 0 where
@@ -90,13 +96,6 @@ module _ (q : Query) (document : List ℕ) where
 
 -- ---- what is still to come
 
--- as many turns as there are bytes left are enough, and no more events were consumed than bytes passed
-pub record Going (q : Query) (document : List ℕ) (answer : Left) (g : Progress) : Type 0 where
-  pub fuel : ℕ
-  pub ahead : byTurn q (λ g′. queryF fuel q document g′) (turnOrRefuse q document g) ≡ answer
-  pub enough : length document ≤ g .place .at + fuel + 1
-  pub counted : g .events ≤ g .place .at
-
 module _ (q : Query) (document : List ℕ) where
   -- 17 and 19 never come where the place lies in the document
   turn-goes : (g : Progress) → sizesBad document (g .table) ≡ false → placeBad (g .place) document (g .table) ≡ false → turnOrRefuse q document g ≡ turn q document g
@@ -130,7 +129,7 @@ module _ (q : Query) (document : List ℕ) where
       (λ b. rw b (going (length document) (begun p table rows) a b (placed p table b) (omega arith) (omega arith)))))
 
   module _ (answer : Left) (g g′ : Progress) (w : Going q document answer g) where
-    pub goes-on : (kind n : ℕ) → turnOrRefuse q document g ≡ passed kind n g′ → afterBy q kind n ≡ on → Going q document answer g′
+    goes-on : (kind n : ℕ) → turnOrRefuse q document g ≡ passed kind n g′ → afterBy q kind n ≡ on → Going q document answer g′
     unfolding byTurn byStep sizesBad placeBad
     goes-on kind n h s =
         let m : Moved document g g′ = moved q document g g′ kind n h in
@@ -140,18 +139,115 @@ module _ (q : Query) (document : List ℕ) where
         rw (le-ltb _ _ (m .within), le-ltb (length (g′ .table)) (2 * g′ .place .names) (omega (arith, m .names-fit, m .same-table))) in
         rw e at (going (w .fuel) g′ good there (m .within) (omega (arith, w .enough, m .some-bytes)) (omega (arith, w .counted, m .some-bytes, m .one-more)))
 
-    pub stops-there : (kind n : ℕ) (e : Ending) → turnOrRefuse q document g ≡ passed kind n g′ → afterBy q kind n ≡ stop e → ends g′ e ≡ answer
+    stops-there : (kind n : ℕ) (e : Ending) → turnOrRefuse q document g ≡ passed kind n g′ → afterBy q kind n ≡ stop e → ends g′ e ≡ answer
     unfolding byTurn byStep
     stops-there kind n e h s = rw (h, s) at (w .ahead)
 
-    pub halts-there : (e : Ending) → turnOrRefuse q document g ≡ halted e g′ → ends g′ e ≡ answer
+    halts-there : (e : Ending) → turnOrRefuse q document g ≡ halted e g′ → ends g′ e ≡ answer
     unfolding byTurn
     halts-there e h = rw h at (w .ahead)
 
+-- ---- after an event, for both loops
+
+absurd-stop : {A : Type 0} → true ≡ false → A
+absurd-stop h = absurd (let z : _≡_ {A = ℕ} 0 1 = cc h in omega arith)
+
+module _ (q : Query) (document : List ℕ) (g : Progress) where
+  moved-by : (t : Turn) → turnOrRefuse q document g ≡ t → stops (stepBy q t .step) ≡ false → Moved document g (stepBy q t .progress)
+  unfolding stepBy
+  moved-by (passed kind n g′) h b = moved q document g g′ kind n h
+  moved-by (halted e g′) h b = absurd-stop b
+
+  module _ (answer : Left) (w : Going q document answer g) where
+    on-by : (kind n : ℕ) (g′ : Progress) (s : Step) → turnOrRefuse q document g ≡ passed kind n g′ → afterBy q kind n ≡ s → stops s ≡ false → Going q document answer g′
+    on-by kind n g′ on h a b = goes-on q document answer g g′ w kind n h a
+    on-by kind n g′ (stop e) h a b = absurd-stop b
+
+    stop-by : (kind n : ℕ) (g′ : Progress) (s : Step) → turnOrRefuse q document g ≡ passed kind n g′ → afterBy q kind n ≡ s → stops s ≡ true → ends g′ (endOf s) ≡ answer
+    stop-by kind n g′ on h a b = absurd-stop (sym b)
+    stop-by kind n g′ (stop e) h a b = stops-there q document answer g g′ w kind n e h a
+
+    going-by : (t : Turn) → turnOrRefuse q document g ≡ t → stops (stepBy q t .step) ≡ false → Going q document answer (stepBy q t .progress)
+    unfolding stepBy
+    going-by (passed kind n g′) h b = on-by kind n g′ (afterBy q kind n) h refl b
+    going-by (halted e g′) h b = absurd-stop b
+
+    ends-by : (t : Turn) → turnOrRefuse q document g ≡ t → stops (stepBy q t .step) ≡ true → ends (stepBy q t .progress) (endOf (stepBy q t .step)) ≡ answer
+    unfolding stepBy
+    ends-by (passed kind n g′) h b = stop-by kind n g′ (afterBy q kind n) h refl b
+    ends-by (halted e g′) h b = halts-there q document answer g g′ w e h
+
+-- from one place a query came to another: what was to come is still to come
+pub record Walked (q : Query) (document : List ℕ) (g₀ g : Progress) : Type 0 where
+  pub still : (answer : Left) → Going q document answer g₀ → Going q document answer g
+  pub counted : g .events ≤ g .place .at
+  pub same-table : length (g .table) ≡ length (g₀ .table)
+  pub same-rows : length (g .rows) ≡ length (g₀ .rows)
+
+pub not-yet : (q : Query) (document : List ℕ) (g : Progress) → g .events ≤ g .place .at → Walked q document g g
+not-yet q document g h = record { still = λ answer w. w; counted = h; same-table = refl; same-rows = refl }
+
+module _ (q : Query) (document : List ℕ) (g₀ : Progress) (table rows table′ rows′ : List ℕ) (reached : Reached) (picked : Picked)
+    (w : Walked q document g₀ (reachedOf table rows reached))
+    (h : turnOf (reachedOf table rows reached) table′ rows′ picked ≡ turnOrRefuse q document (reachedOf table rows reached)) where
+  abbrev g : Progress
+  g = reachedOf table rows reached
+
+  abbrev t : Turn
+  t = turnOf g table′ rows′ picked
+
+  pub addable : length document < 18_446_744_073_709_551_616 → length (g₀ .table) < 18_446_744_073_709_551_616 → length (g₀ .rows) < 18_446_744_073_709_551_616
+      → Addable reached picked
+  addable a b d = record {
+    fits = λ kind len added n e.
+        let m = moved q document g _ kind n (sym h ∙ ap (turnOf g table′ rows′) e) in
+        (omega (arith, m .within), omega (arith, m .names-fit, w .same-table), omega (arith, w .counted, m .some-bytes, m .within), omega (arith, m .rows-fit, w .same-rows));
+  }
+
+  module _ (x : Passed) (e : passedOf table′ rows′ x ≡ stepBy q t) where
+    abbrev g′ : Progress
+    g′ = reachedOf table′ rows′ (x .reached)
+
+    same-stop : stops (stepOf (x .onward)) ≡ stops (stepBy q t .step)
+    same-stop = ap (λ (y : Stepped). stops (y .step)) e
+
+    same-progress : g′ ≡ stepBy q t .progress
+    same-progress = ap (λ (y : Stepped). y .progress) e
+
+    module _ (b : stops (stepOf (x .onward)) ≡ false) where
+      moved-on : Moved document g g′
+      moved-on = rw same-progress (moved-by q document g t (sym h) (sym same-stop ∙ b))
+
+      pub less : length document - x .reached .place .at < length document - reached .place .at
+      less = omega (arith, moved-on .some-bytes, moved-on .within)
+
+      pub walked-on : Walked q document g₀ g′
+      walked-on = record {
+        still = λ answer v. rw same-progress (going-by q document g answer (w .still answer v) t (sym h) (sym same-stop ∙ b));
+        counted = omega (arith, w .counted, moved-on .some-bytes, moved-on .one-more);
+        same-table = moved-on .same-table ∙ w .same-table;
+        same-rows = moved-on .same-rows ∙ w .same-rows;
+      }
+
+    pub ended-there : (answer : Left) → Going q document answer g₀ → stops (stepOf (x .onward)) ≡ true → (y : Queried) → leftOf table′ rows′ y ≡ ends g′ (endOf (stepOf (x .onward)))
+        → leftOf table′ rows′ y ≡ answer
+    ended-there answer v b y k =
+        k ∙ ap (λ (z : Stepped). ends (z .progress) (endOf (z .step))) e ∙ ends-by q document g answer (w .still answer v) t (sym h) (sym same-stop ∙ b)
+
 -- ---- what the code's answers say
 
-pub told : (table rows : List ℕ) (e : Ending) (r r′ : Reached) → r ≡ r′ → leaves table rows r e ≡ leaves table rows r′ e
-told table rows e r r′ h = ap (λ (x : Reached). leaves table rows x e) h
+module _ (q : Query) (document : List ℕ) (answer : Left) (table rows : List ℕ) where
+  pub asks-ended : (x : Queried) → leftOf table rows x ≡ answer → Asks q document answer table rows (Asked.Ended x)
+  asks-ended x h = record {
+    ended = λ y e. let z : x ≡ y = cc e in rw z at h;
+    unsure = λ y e. absurd (let z : _≡_ {A = ℕ} 0 1 = cc e in omega arith);
+  }
+
+  pub asks-unsure : (x : Reached) → Going q document answer (reachedOf table rows x) → Asks q document answer table rows (Asked.Unsure x)
+  asks-unsure x h = record {
+    ended = λ y e. absurd (let z : _≡_ {A = ℕ} 0 1 = cc e in omega arith);
+    unsure = λ y e. let z : x ≡ y = cc e in rw z at h;
+  }
 
 pub single-some : (kind n : ℕ) → (n ≡ 0 → ⊥) → stop found ≡ singleBy kind n
 unfolding singleBy

@@ -3,7 +3,7 @@ use mathlib.Core.List.{List}
 use Prim.Native.Nat.{ℕ}
 use Rattle.slice_spec.specs.Slice.{Place, Left, Answer, gives, end}
 use Rattle.slice_spec.specs.Slice as Defined
-use Rattle.slice_spec.specs.Queries.{Ending, found, done, Step, on, stop}
+use Rattle.slice_spec.specs.Queries.{Ending, found, done, Step, on, stop, Progress, ends}
 use Rattle.slice_spec.specs.Queries as Asked
 use Rattle.slice.specs.declared.Place as Coded
 use Rattle.slice.specs.declared.Created.{Created}
@@ -38,13 +38,13 @@ abbrev pub stepOf : Onward → Step
 stepOf Onward.Next = on
 stepOf Onward.Found = stop found
 stepOf Onward.Done = stop done
+stepOf (Onward.Refused r) = stop (Ending.refused (r .number) (r .detail))
 
--- what a query leaves: how far it came, with the lent words as they are then
-abbrev pub leaves : List ℕ → List ℕ → Reached → Ending → Asked.Left
-leaves table rows r e =
-    record { ending = e; progress = record { place = placeOf (r .place); table = table; rows = rows; events = r .events; written = r .rows } }
+-- how far a query came, with the lent words as they are then
+abbrev pub reachedOf : List ℕ → List ℕ → Reached → Progress
+reachedOf table rows r = record { place = placeOf (r .place); table = table; rows = rows; events = r .events; written = r .rows }
 
 abbrev pub leftOf : List ℕ → List ℕ → Queried → Asked.Left
-leftOf table rows (Queried.Found r) = leaves table rows r found
-leftOf table rows (Queried.Done r) = leaves table rows r done
-leftOf table rows (Queried.Refused r reached) = leaves table rows reached (Ending.refused (r .number) (r .detail))
+leftOf table rows (Queried.Found r) = ends (reachedOf table rows r) found
+leftOf table rows (Queried.Done r) = ends (reachedOf table rows r) done
+leftOf table rows (Queried.Refused r reached) = ends (reachedOf table rows reached) (Ending.refused (r .number) (r .detail))

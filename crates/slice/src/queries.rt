@@ -3,15 +3,17 @@
 use crate::Place;
 use scanner::select::Picked;
 use scanner::select::Query;
+use scanner::select::Uncounted;
 use wire::Command;
 use wire::Refusal;
 ghost use mathlib.Core.List.{List};
 ghost use mathlib.Core.Path.{_≡_};
-ghost use Prim.Native.Nat.{ℕ};
-ghost use Rattle.scanner.specs.Select.{queryOf};
-ghost use Rattle.slice_spec.specs.Queries.{query, find-attribute, attributes-of, find-all-attributes, all-attributes-of};
+ghost use Prim.Native.Nat.{ℕ, _≤_};
+ghost use Rattle.scanner.specs.Select.{queryOf, turnOf};
+ghost use Rattle.slice_spec.specs.Queries.{Left, ends, query, find-attribute, attributes-of, find-all-attributes, all-attributes-of};
 ghost use Rattle.slice_spec.specs.Turns.{singleBy, afterBy};
-ghost use Rattle.slice.specs.Answers.{placeOf, stepOf, leftOf};
+ghost use Rattle.slice.specs.Answers.{placeOf, stepOf, reachedOf, leftOf};
+ghost use Rattle.slice.specs.Going.{Addable, passedOf, stepBy, stops, endOf, Going, Asks};
 
 // How far a query came: the place, the events that it consumed, and the rows that it wrote.
 pub struct Reached {
@@ -27,11 +29,24 @@ pub enum Queried {
     Refused { refusal: Refusal, reached: Reached },
 }
 
-// Whether a query goes on to the next event, or how it ends.
+// Whether a query goes on after an event, or how it ends.
 enum Onward {
     Next,
     Found,
     Done,
+    Refused(Refusal),
+}
+
+// How far it came with an event.
+struct Passed {
+    onward: Onward,
+    reached: Reached,
+}
+
+// It ended, or came to an event of which only counting tells whether the rows left are enough.
+enum Asked {
+    Ended(Queried),
+    Unsure(Reached),
 }
 
 // A query for a single element ends with its first match, and with EndDocument.
@@ -59,75 +74,147 @@ fn after(wanted: Query, kind: u32, count: usize) -> Onward
     }
 }
 
-fn so_far(at: usize, names: usize, events: usize, rows: usize) -> Reached
-    ensures { λ r. ⌜ r ≡ record { place = record { at = at; names = names }; events = events; rows = rows } ⌝ }
+// What comes of an event that was picked.
+fn pass(wanted: Query, reached: Reached, picked: Picked) -> Passed
+    requires { ⌜ Addable reached picked ⌝ }
+    ensures { λ r. ⌜ ((element name table rows table′ rows′ : List ℕ) → passedOf table′ rows′ r ≡ stepBy (queryOf wanted element name) (turnOf (reachedOf table rows reached) table′ rows′ picked)) ⌝ }
 {
-    Reached {
-        place: Place { at, names },
-        events,
-        rows,
+    match picked {
+        Picked::Event {
+            kind,
+            len,
+            added,
+            rows,
+        } => {
+            let place = reached.place;
+            Passed {
+                onward: after(wanted, kind, rows),
+                reached: Reached {
+                    place: Place {
+                        at: place.at + len,
+                        names: place.names + added,
+                    },
+                    events: reached.events + 1,
+                    rows: reached.rows + rows,
+                },
+            }
+        }
+        Picked::End => Passed {
+            onward: Onward::Done,
+            reached,
+        },
+        Picked::Refused(refusal) => Passed {
+            onward: Onward::Refused(refusal),
+            reached,
+        },
     }
 }
 
-// All four. Each turn makes the checks of a call, so a bad size or place is refused at the first; later the place lies in the document.
-// A query without an attribute's name does not look at the one that is lent.
+fn is_over(onward: Onward) -> bool
+    ensures { λ r. ⌜ r ≡ stops (stepOf onward) ⌝ }
+{
+    match onward {
+        Onward::Next => false,
+        Onward::Found => true,
+        Onward::Done => true,
+        Onward::Refused(_) => true,
+    }
+}
+
+// The answer of a query that is over.
+fn told(passed: Passed) -> Queried
+    ensures { λ r. ⌜ ((table rows : List ℕ) → leftOf table rows r ≡ ends (reachedOf table rows (passed .reached)) (endOf (stepOf (passed .onward)))) ⌝ }
+{
+    let reached = passed.reached;
+    let onward = passed.onward;
+    match onward {
+        Onward::Next => Queried::Done(reached),
+        Onward::Found => Queried::Found(reached),
+        Onward::Done => Queried::Done(reached),
+        Onward::Refused(refusal) => Queried::Refused { refusal, reached },
+    }
+}
+
+// All four, as far as nothing is to be counted. Each turn makes the checks of a call, so a bad size or place is refused at the first; later
+// the place lies in the document. A query without an attribute's name does not look at the one that is lent.
 fn ask(
     wanted: Query,
-    place: Place,
+    start: Place,
+    document: &[u8],
+    pool: &mut [u32],
+    rows: &mut [u32],
+    element: &[u8],
+    name: &[u8],
+) -> Asked
+    ensures { λ r. ⌜ Asks (queryOf wanted (now (element .entry)) (now (name .entry))) (now (document .entry)) (query (queryOf wanted (now (element .entry)) (now (name .entry))) (placeOf start) (now (document .entry)) (now (pool .entry)) (now (rows .entry))) (now (pool .exit)) (now (rows .exit)) r ⌝ }
+{
+    let mut reached = Reached {
+        place: start,
+        events: 0,
+        rows: 0,
+    };
+    loop {
+        let place = reached.place;
+        match scanner::select::pick_uncounted(
+            wanted,
+            element,
+            name,
+            document,
+            place.at,
+            place.names,
+            pool,
+            rows,
+            reached.rows,
+        ) {
+            Uncounted::Picked(picked) => {
+                let passed = pass(wanted, reached, picked);
+                let onward = passed.onward;
+                if is_over(onward) {
+                    return Asked::Ended(told(passed));
+                }
+                reached = passed.reached;
+            }
+            Uncounted::Unsure => {
+                return Asked::Unsure(reached);
+            }
+        }
+    }
+}
+
+// The rest of a query, from an event that is to be counted. Counting takes a large frame: each of the four queries calls both loops, since the
+// compiler would make a function with one caller part of it, frame and all.
+fn ask_on(
+    wanted: Query,
+    start: Reached,
     document: &[u8],
     pool: &mut [u32],
     rows: &mut [u32],
     element: &[u8],
     name: &[u8],
 ) -> Queried
-    ensures { λ r. ⌜ leftOf (now (pool .exit)) (now (rows .exit)) r ≡ query (queryOf wanted (now (element .entry)) (now (name .entry))) (placeOf place) (now (document .entry)) (now (pool .entry)) (now (rows .entry)) ⌝ }
+    requires { ⌜ start .events ≤ start .place .at ⌝ }
+    ensures { λ r. ⌜ ((answer : Left) → Going (queryOf wanted (now (element .entry)) (now (name .entry))) (now (document .entry)) answer (reachedOf (now (pool .entry)) (now (rows .entry)) start) → leftOf (now (pool .exit)) (now (rows .exit)) r ≡ answer) ⌝ }
 {
-    let mut at = place.at;
-    let mut names = place.names;
-    let mut events = 0;
-    let mut written = 0;
+    let mut reached = start;
     loop {
-        match scanner::select::pick(
+        let place = reached.place;
+        let picked = scanner::select::pick(
             wanted,
             element,
             name,
             document,
-            at,
-            names,
+            place.at,
+            place.names,
             pool,
             rows,
-            written,
-        ) {
-            Picked::Event {
-                kind,
-                len,
-                added,
-                rows: count,
-            } => {
-                at += len;
-                names += added;
-                events += 1;
-                written += count;
-                match after(wanted, kind, count) {
-                    Onward::Next => {}
-                    Onward::Found => {
-                        return Queried::Found(so_far(at, names, events, written));
-                    }
-                    Onward::Done => {
-                        return Queried::Done(so_far(at, names, events, written));
-                    }
-                }
-            }
-            Picked::End => {
-                return Queried::Done(so_far(at, names, events, written));
-            }
-            Picked::Refused(refusal) => {
-                return Queried::Refused {
-                    refusal,
-                    reached: so_far(at, names, events, written),
-                };
-            }
+            reached.rows,
+        );
+        let passed = pass(wanted, reached, picked);
+        let onward = passed.onward;
+        if is_over(onward) {
+            return told(passed);
         }
+        reached = passed.reached;
     }
 }
 
@@ -142,7 +229,7 @@ pub fn find_attribute(
 ) -> Queried
     ensures { λ r. ⌜ leftOf (now (pool .exit)) (now (rows .exit)) r ≡ query (find-attribute (now (element .entry)) (now (name .entry))) (placeOf place) (now (document .entry)) (now (pool .entry)) (now (rows .entry)) ⌝ }
 {
-    ask(
+    match ask(
         Query::FindAttribute,
         place,
         document,
@@ -150,7 +237,18 @@ pub fn find_attribute(
         rows,
         element,
         name,
-    )
+    ) {
+        Asked::Ended(queried) => queried,
+        Asked::Unsure(reached) => ask_on(
+            Query::FindAttribute,
+            reached,
+            document,
+            pool,
+            rows,
+            element,
+            name,
+        ),
+    }
 }
 
 // The next element of this name: its row, and the rows of its attributes.
@@ -163,7 +261,7 @@ pub fn attributes_of(
 ) -> Queried
     ensures { λ r. ⌜ leftOf (now (pool .exit)) (now (rows .exit)) r ≡ query (attributes-of (now (element .entry))) (placeOf place) (now (document .entry)) (now (pool .entry)) (now (rows .entry)) ⌝ }
 {
-    ask(
+    match ask(
         Query::AttributesOf,
         place,
         document,
@@ -171,7 +269,18 @@ pub fn attributes_of(
         rows,
         element,
         b"",
-    )
+    ) {
+        Asked::Ended(queried) => queried,
+        Asked::Unsure(reached) => ask_on(
+            Query::AttributesOf,
+            reached,
+            document,
+            pool,
+            rows,
+            element,
+            b"",
+        ),
+    }
 }
 
 // Every attribute of this name on every element of that name, to the end of the input.
@@ -185,7 +294,7 @@ pub fn find_all_attributes(
 ) -> Queried
     ensures { λ r. ⌜ leftOf (now (pool .exit)) (now (rows .exit)) r ≡ query (find-all-attributes (now (element .entry)) (now (name .entry))) (placeOf place) (now (document .entry)) (now (pool .entry)) (now (rows .entry)) ⌝ }
 {
-    ask(
+    match ask(
         Query::FindAllAttributes,
         place,
         document,
@@ -193,7 +302,18 @@ pub fn find_all_attributes(
         rows,
         element,
         name,
-    )
+    ) {
+        Asked::Ended(queried) => queried,
+        Asked::Unsure(reached) => ask_on(
+            Query::FindAllAttributes,
+            reached,
+            document,
+            pool,
+            rows,
+            element,
+            name,
+        ),
+    }
 }
 
 // Every element of this name, its row and the rows of its attributes, to the end of the input.
@@ -206,7 +326,7 @@ pub fn all_attributes_of(
 ) -> Queried
     ensures { λ r. ⌜ leftOf (now (pool .exit)) (now (rows .exit)) r ≡ query (all-attributes-of (now (element .entry))) (placeOf place) (now (document .entry)) (now (pool .entry)) (now (rows .entry)) ⌝ }
 {
-    ask(
+    match ask(
         Query::AllAttributesOf,
         place,
         document,
@@ -214,5 +334,16 @@ pub fn all_attributes_of(
         rows,
         element,
         b"",
-    )
+    ) {
+        Asked::Ended(queried) => queried,
+        Asked::Unsure(reached) => ask_on(
+            Query::AllAttributesOf,
+            reached,
+            document,
+            pool,
+            rows,
+            element,
+            b"",
+        ),
+    }
 }

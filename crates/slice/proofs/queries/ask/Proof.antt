@@ -1,107 +1,50 @@
-use mathlib.Core.Path.{_≡_, refl, sym, ap, _∙_}
-use Prim.Native.Nat.{_-_}
-use native.Mathlib.Omega.{arith}
+use Rattle.scanner.specs.Select.{queryOf, turnOf, uncountedOf, turned-is, unsure-is}
 use borrow.Author.Needs.{needs}
+use native.Mathlib.Omega.{arith}
+use mathlib.Core.Path.{sym, ap, _∙_}
+use Prim.Native.Nat.{_-_}
 use lib.ListN.{length}
-use Rattle.scanner.specs.Select.{progress, queryOf, turnOf}
-use Rattle.slice_spec.specs.Queries.{query, found, done}
-use Rattle.slice.specs.Answers.{stepOf}
-use Rattle.slice.proofs.Turning.{Going, begins, moved, goes-on, stops-there, halts-there, told}
+use Rattle.slice.specs.Answers.{reachedOf}
+use Rattle.slice.proofs.Turning.{begins, Walked, not-yet, addable, less, walked-on, ended-there, asks-ended, asks-unsure}
 use Rattle.slice.proofs.queries.ask.Statement.{statement}
 use Rattle.slice.proofs.queries.ask.Tie as tie
 
 abbrev Inv-loop : tie.InvT-loop
-Inv-loop wanted document pool₀ rows₀ element name at₀ names₀ events₀ written₀ pool rows at names events written =
-    let q = queryOf wanted element name in
-    Going q document (query q (record { at = at₀; names = names₀ }) document pool₀ rows₀) (progress at names pool rows events written)
-    × (length pool ≡ length pool₀) × (length rows ≡ length rows₀)
+Inv-loop wanted document pool₀ rows₀ element name reached₀ pool rows reached =
+    Walked (queryOf wanted element name) document (reachedOf pool₀ rows₀ reached₀) (reachedOf pool rows reached)
 
 abbrev μ-loop : tie.MeasureT-loop
-μ-loop wanted document pool₀ rows₀ element name at₀ names₀ events₀ written₀ pool rows at names events written = length document - at
+μ-loop wanted document pool₀ rows₀ element name reached₀ pool rows reached = length document - reached .place .at
 
 loop-holds : tie.Need-loop-holds Inv-loop μ-loop
 loop-holds c =
     let a = c .before .before .before .before .before .args in
-    (begins (queryOf (a .wanted) (a .element .now) (a .name .now)) (a .document .now) (record { at = a .place .at; names = a .place .names }) (a .pool .now) (a .rows .now), refl, refl)
-
-pick-requires : tie.Need-pick-requires Inv-loop μ-loop
-pick-requires c κs = search needs
-
-enum-known-kind : tie.Need-enum-known-kind Inv-loop μ-loop
-enum-known-kind c = search needs
-
-add-at : tie.Need-add-at Inv-loop μ-loop
-add-at c =
-    let a = c .before .before .before .before .before .before .before .before .before .before .before .before .before .before .before .before .args in
-    let l = c .before .before .before .before .before .before .before .before .before .before .loop in
     let q = queryOf (a .wanted) (a .element .now) (a .name .now) in
-    let g = progress (l .at) (l .names) (l .pool) (l .rows) (l .events) (l .written) in
-    let h = sym (c .before .before .before .before .before .before .before .pick .ensures (l .events)) ∙ ap (turnOf g _ _) (c .before .kind .given .1) in
-    let m = moved q (a .document .now) g _ _ _ h in
-    omega (arith, m .within)
+    not-yet q (a .document .now) _ (omega arith)
 
-add-names : tie.Need-add-names Inv-loop μ-loop
-add-names c =
-    let a = c .before .before .before .before .before .before .before .before .before .before .before .before .before .before .before .before .args in
-    let l = c .before .before .before .before .before .before .before .before .before .before .loop in
+pick-uncounted-requires : tie.Need-pick-uncounted-requires Inv-loop μ-loop
+pick-uncounted-requires c κs = search needs
+
+enum-known-picked : tie.Need-enum-known-picked Inv-loop μ-loop
+enum-known-picked c = search needs
+
+pass-requires : tie.Need-pass-requires Inv-loop μ-loop
+pass-requires c κs =
+    let a = c .before .before .before .before .before .before .before .before .before .before .before .before .before .before .before .before .before .args in
+    let l = c .before .before .before .before .before .before .before .before .before .before .before .loop in
     let q = queryOf (a .wanted) (a .element .now) (a .name .now) in
-    let g = progress (l .at) (l .names) (l .pool) (l .rows) (l .events) (l .written) in
-    let h = sym (c .before .before .before .before .before .before .before .pick .ensures (l .events)) ∙ ap (turnOf g _ _) (c .before .kind .given .1) in
-    let m = moved q (a .document .now) g _ _ _ h in
-    omega (arith, m .names-fit, l .inv .1)
+    let g = reachedOf (l .pool) (l .rows) (l .reached) in
+    let t = c .before .before .before .before .before .before .before .pick-uncounted .last .1 .1 .1 .1 .1 .1 .0 in
+    let r = c .before .before .before .before .before .before .before .pick-uncounted .last .1 .1 .1 .1 .1 .1 .1 .0 in
+    let k = c .before .picked .given .0 .0 in
+    let h = turned-is (a .document .now) g (a .wanted) (a .element .now) (a .name .now) (turnOf g t r k) (sym (ap (uncountedOf g t r) (c .before .picked .given .1)) ∙ c .before .before .before .before .before .before .before .pick-uncounted .ensures (l .reached .events)) in
+    addable q (a .document .now) _ (l .pool) (l .rows) t r (l .reached) k (l .inv) h (omega (arith, c .before .before .before .before .before .before .before .before .before .before .before .before .before .before .before .before .before .good)) (omega (arith, c .before .before .before .before .before .before .before .before .before .before .before .before .before .before .before .before .before .good)) (omega (arith, c .before .before .before .before .before .before .before .before .before .before .before .before .before .before .before .before .before .good))
 
-add-events : tie.Need-add-events Inv-loop μ-loop
-add-events c =
-    let a = c .before .before .before .before .before .before .before .before .before .before .before .before .before .before .before .before .args in
-    let l = c .before .before .before .before .before .before .before .before .before .before .loop in
-    let q = queryOf (a .wanted) (a .element .now) (a .name .now) in
-    let g = progress (l .at) (l .names) (l .pool) (l .rows) (l .events) (l .written) in
-    let h = sym (c .before .before .before .before .before .before .before .pick .ensures (l .events)) ∙ ap (turnOf g _ _) (c .before .kind .given .1) in
-    let m = moved q (a .document .now) g _ _ _ h in
-    omega (arith, m .some-bytes, m .within, l .inv .0 .counted)
+is-over-requires : tie.Need-is-over-requires Inv-loop μ-loop
+is-over-requires c κs = search needs
 
-add-written : tie.Need-add-written Inv-loop μ-loop
-add-written c =
-    let a = c .before .before .before .before .before .before .before .before .before .before .before .before .before .before .before .before .args in
-    let l = c .before .before .before .before .before .before .before .before .before .before .loop in
-    let q = queryOf (a .wanted) (a .element .now) (a .name .now) in
-    let g = progress (l .at) (l .names) (l .pool) (l .rows) (l .events) (l .written) in
-    let h = sym (c .before .before .before .before .before .before .before .pick .ensures (l .events)) ∙ ap (turnOf g _ _) (c .before .kind .given .1) in
-    let m = moved q (a .document .now) g _ _ _ h in
-    omega (arith, m .rows-fit, l .inv .2)
-
-after-requires : tie.Need-after-requires Inv-loop μ-loop
-after-requires c κs = search needs
-
-enum-told : tie.Need-enum-told Inv-loop μ-loop
-enum-told c = search needs
-
-loop-less : tie.Need-loop-less Inv-loop μ-loop
-loop-less c =
-    let a = c .before .before .before .before .before .before .before .before .before .before .before .before .before .before .before .before .before .before .before .args in
-    let l = c .before .before .before .before .before .before .before .before .before .before .before .before .before .loop in
-    let q = queryOf (a .wanted) (a .element .now) (a .name .now) in
-    let g = progress (l .at) (l .names) (l .pool) (l .rows) (l .events) (l .written) in
-    let h = sym (c .before .before .before .before .before .before .before .before .before .before .pick .ensures (l .events)) ∙ ap (turnOf g _ _) (c .before .before .before .before .kind .given .1) in
-    let m = moved q (a .document .now) g _ _ _ h in
-    omega (arith, m .some-bytes, m .within)
-
-loop-again : tie.Need-loop-again Inv-loop μ-loop
-loop-again c =
-    let a = c .before .before .before .before .before .before .before .before .before .before .before .before .before .before .before .before .before .before .before .args in
-    let l = c .before .before .before .before .before .before .before .before .before .before .before .before .before .loop in
-    let q = queryOf (a .wanted) (a .element .now) (a .name .now) in
-    let g = progress (l .at) (l .names) (l .pool) (l .rows) (l .events) (l .written) in
-    let h = sym (c .before .before .before .before .before .before .before .before .before .before .pick .ensures (l .events)) ∙ ap (turnOf g _ _) (c .before .before .before .before .kind .given .1) in
-    let m = moved q (a .document .now) g _ _ _ h in
-    let s = sym (c .before .before .after .ensures (a .element .now) (a .name .now)) ∙ ap stepOf (c .enum-told .given .1) in
-    (goes-on q (a .document .now) _ g _ (l .inv .0) _ _ h s, m .same-table ∙ l .inv .1, m .same-rows ∙ l .inv .2)
-
-enum-told-2 : tie.Need-enum-told-2 Inv-loop μ-loop
-enum-told-2 c = search needs
-
-so-far-requires : tie.Need-so-far-requires Inv-loop μ-loop
-so-far-requires c κs = search needs
+told-requires : tie.Need-told-requires Inv-loop μ-loop
+told-requires c κs = search needs
 
 same-length : tie.Need-same-length Inv-loop μ-loop
 same-length c = search needs
@@ -111,19 +54,42 @@ same-length-2 c = search needs
 
 returns : tie.Need-returns Inv-loop μ-loop
 returns c =
-    let a = c .before .before .before .before .before .before .before .before .before .before .before .before .before .before .before .before .before .before .before .before .args in
-    let l = c .before .before .before .before .before .before .before .before .before .before .before .before .before .before .loop in
+    let a = c .before .before .before .before .before .before .before .before .before .before .before .before .before .before .before .before .before .before .before .before .before .args in
+    let l = c .before .before .before .before .before .before .before .before .before .before .before .before .before .before .before .loop in
     let q = queryOf (a .wanted) (a .element .now) (a .name .now) in
-    let g = progress (l .at) (l .names) (l .pool) (l .rows) (l .events) (l .written) in
-    let h = sym (c .before .before .before .before .before .before .before .before .before .before .before .pick .ensures (l .events)) ∙ ap (turnOf g _ _) (c .before .before .before .before .before .kind .given .1) in
-    let s = sym (c .before .before .before .after .ensures (a .element .now) (a .name .now)) ∙ ap stepOf (c .before .enum-told2 .given .1) in
-    told _ _ _ _ _ (c .so-far .ensures) ∙ stops-there q (a .document .now) _ g _ (l .inv .0) _ _ found h s
+    let g = reachedOf (l .pool) (l .rows) (l .reached) in
+    let t = c .before .before .before .before .before .before .before .before .before .before .before .pick-uncounted .last .1 .1 .1 .1 .1 .1 .0 in
+    let r = c .before .before .before .before .before .before .before .before .before .before .before .pick-uncounted .last .1 .1 .1 .1 .1 .1 .1 .0 in
+    let k = c .before .before .before .before .before .picked .given .0 .0 in
+    let h = turned-is (a .document .now) g (a .wanted) (a .element .now) (a .name .now) (turnOf g t r k) (sym (ap (uncountedOf g t r) (c .before .before .before .before .before .picked .given .1)) ∙ c .before .before .before .before .before .before .before .before .before .before .before .pick-uncounted .ensures (l .reached .events)) in
+    asks-ended q (a .document .now) _ t r (c .told .result) (ended-there q (a .document .now) _ (l .pool) (l .rows) t r (l .reached) k (l .inv) h (c .before .before .before .pass .result) (c .before .before .before .pass .ensures (a .element .now) (a .name .now) (l .pool) (l .rows) t r) _ (begins q (a .document .now) (record { at = a .start .at; names = a .start .names }) (a .pool .now) (a .rows .now)) (sym (c .before .before .is-over .ensures) ∙ c .before .if1 .taken) (c .told .result) (c .told .ensures t r))
 
-enum-told-3 : tie.Need-enum-told-3 Inv-loop μ-loop
-enum-told-3 c = search needs
+loop-less : tie.Need-loop-less Inv-loop μ-loop
+loop-less c =
+    let a = c .before .before .before .before .before .before .before .before .before .before .before .before .before .before .before .before .before .before .before .before .before .args in
+    let l = c .before .before .before .before .before .before .before .before .before .before .before .before .before .before .before .loop in
+    let q = queryOf (a .wanted) (a .element .now) (a .name .now) in
+    let g = reachedOf (l .pool) (l .rows) (l .reached) in
+    let t = c .before .before .before .before .before .before .before .before .before .before .before .pick-uncounted .last .1 .1 .1 .1 .1 .1 .0 in
+    let r = c .before .before .before .before .before .before .before .before .before .before .before .pick-uncounted .last .1 .1 .1 .1 .1 .1 .1 .0 in
+    let k = c .before .before .before .before .before .picked .given .0 .0 in
+    let h = turned-is (a .document .now) g (a .wanted) (a .element .now) (a .name .now) (turnOf g t r k) (sym (ap (uncountedOf g t r) (c .before .before .before .before .before .picked .given .1)) ∙ c .before .before .before .before .before .before .before .before .before .before .before .pick-uncounted .ensures (l .reached .events)) in
+    less q (a .document .now) _ (l .pool) (l .rows) t r (l .reached) k (l .inv) h (c .before .before .before .pass .result) (c .before .before .before .pass .ensures (a .element .now) (a .name .now) (l .pool) (l .rows) t r) (sym (c .before .before .is-over .ensures) ∙ c .before .if1 .left)
 
-so-far-requires-2 : tie.Need-so-far-requires-2 Inv-loop μ-loop
-so-far-requires-2 c κs = search needs
+loop-again : tie.Need-loop-again Inv-loop μ-loop
+loop-again c =
+    let a = c .before .before .before .before .before .before .before .before .before .before .before .before .before .before .before .before .before .before .before .before .before .args in
+    let l = c .before .before .before .before .before .before .before .before .before .before .before .before .before .before .before .loop in
+    let q = queryOf (a .wanted) (a .element .now) (a .name .now) in
+    let g = reachedOf (l .pool) (l .rows) (l .reached) in
+    let t = c .before .before .before .before .before .before .before .before .before .before .before .pick-uncounted .last .1 .1 .1 .1 .1 .1 .0 in
+    let r = c .before .before .before .before .before .before .before .before .before .before .before .pick-uncounted .last .1 .1 .1 .1 .1 .1 .1 .0 in
+    let k = c .before .before .before .before .before .picked .given .0 .0 in
+    let h = turned-is (a .document .now) g (a .wanted) (a .element .now) (a .name .now) (turnOf g t r k) (sym (ap (uncountedOf g t r) (c .before .before .before .before .before .picked .given .1)) ∙ c .before .before .before .before .before .before .before .before .before .before .before .pick-uncounted .ensures (l .reached .events)) in
+    walked-on q (a .document .now) _ (l .pool) (l .rows) t r (l .reached) k (l .inv) h (c .before .before .before .pass .result) (c .before .before .before .pass .ensures (a .element .now) (a .name .now) (l .pool) (l .rows) t r) (sym (c .before .before .is-over .ensures) ∙ c .before .if1 .left)
+
+enum-told : tie.Need-enum-told Inv-loop μ-loop
+enum-told c = search needs
 
 same-length-3 : tie.Need-same-length-3 Inv-loop μ-loop
 same-length-3 c = search needs
@@ -133,55 +99,14 @@ same-length-4 c = search needs
 
 returns-2 : tie.Need-returns-2 Inv-loop μ-loop
 returns-2 c =
-    let a = c .before .before .before .before .before .before .before .before .before .before .before .before .before .before .before .before .before .before .before .before .args in
-    let l = c .before .before .before .before .before .before .before .before .before .before .before .before .before .before .loop in
-    let q = queryOf (a .wanted) (a .element .now) (a .name .now) in
-    let g = progress (l .at) (l .names) (l .pool) (l .rows) (l .events) (l .written) in
-    let h = sym (c .before .before .before .before .before .before .before .before .before .before .before .pick .ensures (l .events)) ∙ ap (turnOf g _ _) (c .before .before .before .before .before .kind .given .1) in
-    let s = sym (c .before .before .before .after .ensures (a .element .now) (a .name .now)) ∙ ap stepOf (c .before .enum-told3 .given .1) in
-    told _ _ _ _ _ (c .so-far2 .ensures) ∙ stops-there q (a .document .now) _ g _ (l .inv .0) _ _ done h s
-
-enum-told-4 : tie.Need-enum-told-4 Inv-loop μ-loop
-enum-told-4 c = search needs
-
-so-far-requires-3 : tie.Need-so-far-requires-3 Inv-loop μ-loop
-so-far-requires-3 c κs = search needs
-
-same-length-5 : tie.Need-same-length-5 Inv-loop μ-loop
-same-length-5 c = search needs
-
-same-length-6 : tie.Need-same-length-6 Inv-loop μ-loop
-same-length-6 c = search needs
-
-returns-3 : tie.Need-returns-3 Inv-loop μ-loop
-returns-3 c =
     let a = c .before .before .before .before .before .before .before .before .before .before .before .before .before .before .before .before .args in
     let l = c .before .before .before .before .before .before .before .before .before .before .loop in
     let q = queryOf (a .wanted) (a .element .now) (a .name .now) in
-    let g = progress (l .at) (l .names) (l .pool) (l .rows) (l .events) (l .written) in
-    let h = sym (c .before .before .before .before .before .before .before .pick .ensures (l .events)) ∙ ap (turnOf g _ _) (c .before .enum-told4 .given .1) in
-    told _ _ _ _ _ (c .so-far3 .ensures) ∙ halts-there q (a .document .now) _ g _ (l .inv .0) done h
-
-enum-known-refusal : tie.Need-enum-known-refusal Inv-loop μ-loop
-enum-known-refusal c = search needs
-
-so-far-requires-4 : tie.Need-so-far-requires-4 Inv-loop μ-loop
-so-far-requires-4 c κs = search needs
-
-same-length-7 : tie.Need-same-length-7 Inv-loop μ-loop
-same-length-7 c = search needs
-
-same-length-8 : tie.Need-same-length-8 Inv-loop μ-loop
-same-length-8 c = search needs
-
-returns-4 : tie.Need-returns-4 Inv-loop μ-loop
-returns-4 c =
-    let a = c .before .before .before .before .before .before .before .before .before .before .before .before .before .before .before .before .before .args in
-    let l = c .before .before .before .before .before .before .before .before .before .before .before .loop in
-    let q = queryOf (a .wanted) (a .element .now) (a .name .now) in
-    let g = progress (l .at) (l .names) (l .pool) (l .rows) (l .events) (l .written) in
-    let h = sym (c .before .before .before .before .before .before .before .before .pick .ensures (l .events)) ∙ ap (turnOf g _ _) (c .before .before .refusal .given .1) in
-    told _ _ _ _ _ (c .so-far4 .ensures) ∙ halts-there q (a .document .now) _ g _ (l .inv .0) _ h
+    let g = reachedOf (l .pool) (l .rows) (l .reached) in
+    let t = c .before .before .before .before .before .before .pick-uncounted .last .1 .1 .1 .1 .1 .1 .0 in
+    let r = c .before .before .before .before .before .before .pick-uncounted .last .1 .1 .1 .1 .1 .1 .1 .0 in
+    let u = unsure-is (a .document .now) g (a .wanted) (a .element .now) (a .name .now) _ (sym (ap (uncountedOf g t r) (c .enum-told .given .1)) ∙ c .before .before .before .before .before .before .pick-uncounted .ensures (l .reached .events)) in
+    asks-unsure q (a .document .now) _ t r (l .reached) (rw u (l .inv .still _ (begins q (a .document .now) (record { at = a .start .at; names = a .start .names }) (a .pool .now) (a .rows .now))))
 
 pub ask-spec : {M : Type 1} → statement M
 ask-spec =
@@ -190,33 +115,17 @@ ask-spec =
     Inv-loop
     μ-loop
     loop-holds
-    pick-requires
-    enum-known-kind
-    add-at
-    add-names
-    add-events
-    add-written
-    after-requires
-    enum-told
-    loop-less
-    loop-again
-    enum-told-2
-    so-far-requires
+    pick-uncounted-requires
+    enum-known-picked
+    pass-requires
+    is-over-requires
+    told-requires
     same-length
     same-length-2
     returns
-    enum-told-3
-    so-far-requires-2
+    loop-less
+    loop-again
+    enum-told
     same-length-3
     same-length-4
-    returns-2
-    enum-told-4
-    so-far-requires-3
-    same-length-5
-    same-length-6
-    returns-3
-    enum-known-refusal
-    so-far-requires-4
-    same-length-7
-    same-length-8
-    returns-4)
+    returns-2)
