@@ -364,7 +364,7 @@ fn remember(start: u32, k: u16, seen: &mut [u16])
 
 // ---- the pool's index
 //
-// A long list searches the pool by an index: by slots, the pairs before the first that ends outside the output. A pair is named
+// A list searches a pool of many names by an index: by slots, the pairs before the first that ends outside the output. A pair is named
 // by how far it is from 65,535, so that 0 names none. The index has each slot's first pair (16,384 words), the number of
 // those pairs, and of each pair the next of its slot.
 
@@ -1218,8 +1218,8 @@ fn write_checked<'a>(
 
 // ---- tries, by how many names they can note
 //
-// The arrays of a try are its function's stack, and the compiler joins the frames of functions that it puts into one. It leaves apart a function that has two tries
-// and two callers: hence the pairs below.
+// The arrays of a try are the stack of its function. The compiler makes a small function part of its callers, frame and all, and
+// leaves one apart that has two tries and two callers. So the tries come in pairs, and a call goes from pair to pair.
 
 // Notes of 64 names.
 fn write_few<'a>(
