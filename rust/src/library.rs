@@ -6,8 +6,8 @@
 //! else's where they are written. Each function below gets its pointers and lengths from Rust references that it borrows until it returns,
 //! and those are just that: they do not overlap where one is `&mut`, and are aligned and not null even where the length is 0. The
 //! functions keep no pointer, have no state of their own, do not unwind, and write nothing but bytes and words, of which every value is valid.
-//! A call of the writer takes 1.6 MB of stack and a query up to 0.6 MB, which they touch page by page, so that too small a stack ends in its
-//! guard page.
+//! A call of the writer takes up to 1.6 MB of stack and a query up to 0.6 MB (`include/abx.h` says when), which they touch page by page, so that too
+//! small a stack ends in its guard page.
 
 // Nobody calls all of them. A function that is not called is not looked for in the library.
 #![allow(dead_code)]

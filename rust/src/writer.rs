@@ -8,7 +8,8 @@ use crate::{Event, Result};
 /// Writes events to a document in memory.
 ///
 /// Names are interned, values are not. Events are written as they come: whether tags are closed is not checked. A call that
-/// fails changes nothing. Each call takes 1.6 MB of stack.
+/// fails changes nothing. One event takes 64 KB of stack, more up to 1.6 MB (the
+/// README says when).
 ///
 /// ```
 /// use abx::{AbxWriter, Event};

@@ -3,7 +3,7 @@ use mathlib.Core.Bool.{Bool, true, false, not}
 use mathlib.Core.Option.{none, some}
 use mathlib.Core.List.{List}
 use mathlib.Core.Path.{_≡_, refl, sym, ap, _∙_}
-use Prim.Native.Nat.{ℕ, zero, suc, _*_, _/_, _%_, _≤_, _<_}
+use Prim.Native.Nat.{ℕ, zero, suc, _*_, _%_, _≤_, _<_}
 use native.Mathlib.Omega.{arith}
 use borrow.Author.Tests.{ltb-false, eqb-true}
 use lib.Dec.{ltb, eqb}
@@ -13,7 +13,7 @@ use Rattle.wire.specs.Limits.{maxStore, maxTable}
 use Rattle.event.specs.Row.{Row}
 use Rattle.event.specs.Words.{listForms, eventForms}
 use Rattle.writer_spec.specs.Writer.{Writer, Lent, refused, Left, Refusal, _before_, refuseIf, sizesBad, stateBad, poolAt, meetsBad, rowsRefusal, unless, refusal, append, write, rowsIn}
-use Rattle.grammar.specs.Choice.{neither, byTest}
+use Rattle.grammar.specs.Choice.{neither}
 use Rattle.writer_spec.specs.Laws.{both-forms, pool-count}
 use Rattle.writer_spec.specs.Unrefused.{fits}
 use Rattle.writer.specs.Answers.{lentOf, formsBy}

@@ -1,7 +1,7 @@
 -- Notes by their slots: a look goes from a slot's last note to the ones before it, and a new note goes in front.
 use mathlib.Core.Bool.{true, false, false≢true}
 use mathlib.Core.List.{List, [], _∷_, _++_}
-use mathlib.Core.Path.{_≡_, refl, sym, ap, _∙_}
+use mathlib.Core.Path.{_≡_, sym, ap, _∙_}
 use Prim.Native.Nat.{ℕ, _+_, _*_, _-_, _/_, _%_, _≤_, _<_}
 use native.Mathlib.Nat.{mod-lt, div-lt-iff-lt-mul, mul-lt-mul-of-pos-right, mul-comm, add-zero}
 use native.Mathlib.Omega.{arith}
@@ -11,7 +11,7 @@ use lib.ListN.{length, getD, set, length-append, length-set, List·getD-append}
 use lib.Seq.{getD-append-add, getD-set-same, getD-set-other}
 use Rattle.event.specs.Span.{span, same}
 use Rattle.event.specs.Laws.{same-refl}
-use Rattle.grammar.specs.Choice.{byTest, cond-by}
+use Rattle.grammar.specs.Choice.{byTest}
 use Rattle.writer.specs.Notes.{slotBy, slotOf, noteName, noteLink, count, Chain, Linked, LookSays, Recalled}
 use Rattle.writer.specs.declared.Look.the-variants as Look
 

@@ -5,8 +5,6 @@ use mathlib.Core.List.{List, [], _∷_, _++_}
 use mathlib.Core.Path.{_≡_, refl, sym, ap, _∙_}
 use Prim.Native.Nat.{ℕ, _+_, _/_, _≤_, _<_}
 use native.Mathlib.Omega.{arith}
-use borrow.Author.Tests.{ltb-true, ltb-false}
-use lib.Dec.{ltb}
 use lib.ListN.{length, getD, set, take, length-append}
 use lib.Seq.{sets, length-sets, length-take-le}
 use Rattle.wire.specs.Header.{be16, be32}
@@ -17,7 +15,7 @@ use Rattle.event.specs.declared.Shape.{Shape}
 use Rattle.event.specs.declared.Shape.the-variants as Shape
 use Rattle.grammar.specs.Grammar.{most}
 use Rattle.grammar.specs.Document.{Pool}
-use Rattle.grammar.specs.Choice.{byTest, cond-by}
+use Rattle.grammar.specs.Choice.{cond-by}
 use Rattle.writer_spec.specs.Encode.{find, nameBy, nameBytes, valueBytes, rowBytes, keepRow}
 use Rattle.writer_spec.specs.Faults.{stringFault, valueFault}
 use Rattle.writer_spec.specs.Writer.{Refusal, _before_, refuseIf, rowRefusal}
@@ -27,7 +25,7 @@ use Rattle.writer.specs.Notes.{slotOf, noteName, noteIndex, count, Unnot
 use Rattle.writer.specs.declared.Look.the-variants as Look
 use Rattle.writer.specs.declared.NameSize.{NameSize}
 use Rattle.writer.specs.declared.NameSize.the-variants as NameSize
-use Rattle.writer.specs.Passes.{nameRefusal, capped, most-notes, Grown, bad, found, Known, NameTakes, NameSays, RowNamed, RowNameSays, RowTakes}
+use Rattle.writer.specs.Passes.{nameRefusal, capped, most-notes, bad, found, Known, NameTakes, NameSays, RowNamed, RowNameSays, RowTakes}
 use Rattle.writer.proofs.Pools.{keep-there, keep-new, keep-full, find-below}
 use Rattle.writer.proofs.Links.{count-more, name-new}
 use Rattle.writer.proofs.Noting.{few, still, noted-kept, noted-new}
@@ -194,19 +192,15 @@ module _ (first second output table : List ℕ) (kept : ℕ) (pool : Pool) (w no
       heads-are : heads′ ≡ heads-with
       heads-are = headed ∙ ap (λ (m : ℕ). set heads slot (m + 1)) (sym (counted first second notes used in-use))
 
-      grown : Grown used (used + 5) (length notes′)
-      grown =
-          record {
-            grows = omega arith;
-            fits = rw stored (simp length-sets room);
-          }
+      grown : used + 5 ≤ length notes′
+      grown = rw stored (simp length-sets room)
 
       pub kept-says : find pool name ≡ some index
-          → Grown used (used + 5) (length notes′) × NameTakes first second output table kept pool name 2 (length pool) (take used notes) (take (used + 5) notes′) heads′
+          → (used + 5 ≤ length notes′) × NameTakes first second output table kept pool name 2 (length pool) (take used notes) (take (used + 5) notes′) heads′
       kept-says f = (grown, rw (notes-are, heads-are) (known-kept index f))
 
       pub new-says : find pool name ≡ none → length pool < most → index ≡ length pool
-          → Grown used (used + 5) (length notes′) × NameTakes first second output table kept pool name (4 + length name) (length pool + 1) (take used notes) (take (used + 5) notes′) heads′
+          → (used + 5 ≤ length notes′) × NameTakes first second output table kept pool name (4 + length name) (length pool + 1) (take used notes) (take (used + 5) notes′) heads′
       new-says f m e = (grown, rw (notes-are, heads-are, e) (known-new f m))
 
 -- ---- rows
@@ -314,14 +308,14 @@ module _ (first second output table : List ℕ) (kept : ℕ) (w n notes heads : 
   module _ (index : ℕ) (notes′ heads′ : List ℕ) (stored : notes′ ≡ sets notes used (getD w 1 0 ∷ getD w 2 0 ∷ getD w 3 0 ∷ index ∷ getD heads slot 0 ∷ []))
       (headed : heads′ ≡ set heads slot (used / 5 + 1)) (room : used + 5 ≤ length notes) where
     pub says-kept : Answer (some index)
-        → Grown used (used + 5) (length notes′) × NameTakes first second output table kept pool n 2 names (take used notes) (take (used + 5) notes′) heads′
+        → (used + 5 ≤ length notes′) × NameTakes first second output table kept pool n 2 names (take used notes) (take (used + 5) notes′) heads′
     says-kept q =
         rw (e, ← counts)
         (kept-says first second output table kept pool w notes heads used slot t (rw e at u) (rw e at its) h (rw e at (here (some index) q .0)) in-use small index notes′ heads′
         room stored headed (rw e at (here (some index) q .1)))
 
     pub says-new : Answer none → names < internedNew → index ≡ names
-        → Grown used (used + 5) (length notes′) × NameTakes first second output table kept pool n (4 + length n) (names + 1) (take used notes) (take (used + 5) notes′) heads′
+        → (used + 5 ≤ length notes′) × NameTakes first second output table kept pool n (4 + length n) (names + 1) (take used notes) (take (used + 5) notes′) heads′
     unfolding most
     says-new q m i =
         rw (e, ← counts)
@@ -329,10 +323,10 @@ module _ (first second output table : List ℕ) (kept : ℕ) (w n notes heads : 
         room stored headed (rw e at (here none q .1)) (omega arith) (i ∙ sym counts))
 
   pub says-full : Answer none → internedNew ≤ names
-      → Grown used used (length notes) × NameTakes first second output table kept pool n (4 + length n) names (take used notes) (take used notes) heads
+      → (used ≤ length notes) × NameTakes first second output table kept pool n (4 + length n) names (take used notes) (take used notes) heads
   unfolding most
   says-full q m = (
-    record { grows = omega arith; fits = in-use },
+    in-use,
     rw (← counts) (takes-full first second output table kept pool n (take used notes) heads t (here none q .0) (here none q .1) (omega arith)),
   )
 
@@ -352,18 +346,18 @@ module _ (first second output table : List ℕ) (kept : ℕ) (pool : Pool) (r : 
 
   pub says-noted : (heads : List ℕ) (i names : ℕ) → length pool ≡ names → used ≤ length notes → Known first second output table kept pool (take used notes) heads
       → LookSays first second (take used notes) n (Look.At i)
-      → Grown used used (length notes) × RowNamed first second output table kept pool r 2 names (take used notes) (take used notes) heads
+      → (used ≤ length notes) × RowNamed first second output table kept pool r 2 names (take used notes) (take used notes) heads
   says-noted heads i names c b t l = (
-    record { grows = omega arith; fits = b },
+    b,
     rw (← c) (named-row first second output table kept pool r n 2 (length pool) _ _ heads h e
         (takes-noted first second output table kept pool n (take used notes) heads t (l .0) (l .1) (l .2))),
   )
 
 pub says-bare : (first second output table : List ℕ) (kept : ℕ) (pool : Pool) (r : Row) (notes heads : List ℕ) (used names : ℕ) → hasName (r .kind) ≡ false
     → length pool ≡ names → used ≤ length notes → Known first second output table kept pool (take used notes) heads
-    → Grown used used (length notes) × RowNamed first second output table kept pool r 0 names (take used notes) (take used notes) heads
+    → (used ≤ length notes) × RowNamed first second output table kept pool r 0 names (take used notes) (take used notes) heads
 says-bare first second output table kept pool r notes heads used names h c b t =
-    (record { grows = omega arith; fits = b }, rw (← c) (bare-row first second output table kept pool r (take used notes) heads h t))
+    (b, rw (← c) (bare-row first second output table kept pool r (take used notes) heads h t))
 
 -- ---- no size comes near the end of a word
 

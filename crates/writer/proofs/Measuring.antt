@@ -3,7 +3,7 @@ use mathlib.Core.Bool.{Bool, true, false}
 use mathlib.Core.Option.{Option, none, some}
 use mathlib.Core.List.{List, [], _∷_, _++_, append-nil, append-assoc}
 use mathlib.Core.Path.{_≡_, sym, ap, _∙_}
-use Prim.Native.Nat.{ℕ, _+_, _*_, _%_, _≤_, _<_}
+use Prim.Native.Nat.{ℕ, _+_, _%_, _≤_, _<_}
 use native.Mathlib.Nat.{sub-zero}
 use native.Mathlib.Omega.{arith}
 use lib.ListN.{length, take, drop}
@@ -19,7 +19,7 @@ use Rattle.writer_spec.specs.Wrote.{keepRows-append}
 use Rattle.writer_spec.specs.Held.{rows-bounded}
 use Rattle.writer.specs.Answers.{lentOf}
 use Rattle.writer.specs.Notes.{Fresh, Unnoted}
-use Rattle.writer.specs.Passes.{roomOf, endsAt, Grown, Settled, AllSettled, bad, found, Known, Kept, RowTakes, MeasureSays}
+use Rattle.writer.specs.Passes.{roomOf, endsAt, Settled, AllSettled, bad, found, Known, Kept, RowTakes, MeasureSays}
 use Rattle.writer.specs.declared.Measured.the-variants as Measured
 use Rattle.writer.specs.declared.Tally.{Tally}
 use Rattle.writer.proofs.Pools.{row-full}
@@ -116,7 +116,7 @@ module _ (first second output table rows : List ℕ) (kept written : ℕ) where
       row-stops a b e = sym remains-here ∙ stops-row l names-bad (t .at) pool this after (a, b) e
 
       -- the row takes so much
-      module _ (u : Tally) (notes′ heads′ : List ℕ) (g : Grown (t .used) (u .used) (length notes′))
+      module _ (u : Tally) (notes′ heads′ : List ℕ) (g : u .used ≤ length notes′)
           (k : RowTakes first second output table kept pool this (t .at) (u .at) (u .names) (take (t .used) notes) (take (u .used) notes′) heads′) where
         abbrev pool′ : Pool
         pool′ = keepRow pool this
@@ -153,7 +153,7 @@ module _ (first second output table rows : List ℕ) (kept written : ℕ) where
                   rw pool-next
                   (all-append first second pool′ (take (u .used) notes′) (m .done) this
                   (all-more first second pool this (take (t .used) notes) (take (u .used) notes′) (k .more .still) (m .done) (m .settled)) (k .settled));
-              used-fits = g .fits;
+              used-fits = g;
               at-small = rw (k .at-is) (omega (arith, capped-small (length output) place));
             }
 

@@ -3,7 +3,7 @@ use mathlib.Core.Bool.{Bool, true, false, not, cond}
 use mathlib.Core.Option.{Option, none, some}
 use mathlib.Core.List.{List, [], _∷_, _++_}
 use mathlib.Core.Path.{_≡_}
-use Prim.Native.Nat.{ℕ, _+_, _*_, _/_, _≤_, _<_}
+use Prim.Native.Nat.{ℕ, _+_, _*_, _≤_, _<_}
 use lib.Dec.{ltb, eqb}
 use lib.ListN.{length, getD, take}
 use Rattle.wire.specs.Refusal.{badSize, badState, notRows, poolFull, outputFull}
@@ -44,11 +44,6 @@ endsAt rows at = cond (ltb at (length rows)) (not (eqb (getD rows at 0) attribut
 -- the words of notes for every name that a pool can hold
 abbrev pub most-notes : ℕ
 most-notes = 327_675
-
--- no fewer words of notes
-pub record Grown (used used′ size : ℕ) : Type 0 where
-  pub grows : used ≤ used′
-  pub fits : used′ ≤ size
 
 -- a number of slots
 pub record Slots (size : ℕ) : Type 0 where
@@ -104,7 +99,7 @@ module _ (first second output table : List ℕ) (kept : ℕ) where
 
   abbrev pub NameSays : Pool → List ℕ → ℕ → List ℕ → List ℕ → List ℕ → NameSize → Type 0
   NameSays pool n used notes notes′ heads′ (NameSize.Takes size names′ used′) =
-      Grown used used′ (length notes′) × NameTakes pool n size names′ (take used notes) (take used′ notes′) heads′
+      (used′ ≤ length notes′) × NameTakes pool n size names′ (take used notes) (take used′ notes′) heads′
   NameSays pool n used notes notes′ heads′ (NameSize.Refused r) = nameRefusal bad n ≡ some (r .number, r .detail)
   NameSays pool n used notes notes′ heads′ NameSize.Crowded = length notes′ < most-notes
 
@@ -122,7 +117,7 @@ module _ (first second output table : List ℕ) (kept : ℕ) where
 
   abbrev pub RowNameSays : Pool → Row → ℕ → List ℕ → List ℕ → List ℕ → NameSize → Type 0
   RowNameSays pool r used notes notes′ heads′ (NameSize.Takes size names′ used′) =
-      Grown used used′ (length notes′) × RowNamed pool r size names′ (take used notes) (take used′ notes′) heads′
+      (used′ ≤ length notes′) × RowNamed pool r size names′ (take used notes) (take used′ notes′) heads′
   RowNameSays pool r used notes notes′ heads′ (NameSize.Refused s) =
       cond (hasName (r .kind)) (nameRefusal bad (r .name)) none ≡ some (s .number, s .detail)
   RowNameSays pool r used notes notes′ heads′ NameSize.Crowded = length notes′ < most-notes
@@ -141,7 +136,7 @@ module _ (first second output table : List ℕ) (kept : ℕ) where
 
   abbrev pub RowSays : Pool → Row → Tally → List ℕ → List ℕ → List ℕ → RowSize → Type 0
   RowSays pool r t notes notes′ heads′ (RowSize.Takes u) =
-      Grown (t .used) (u .used) (length notes′) × RowTakes pool r (t .at) (u .at) (u .names) (take (t .used) notes) (take (u .used) notes′) heads′
+      (u .used ≤ length notes′) × RowTakes pool r (t .at) (u .at) (u .names) (take (t .used) notes) (take (u .used) notes′) heads′
   RowSays pool r t notes notes′ heads′ (RowSize.Refused s) = rowRefusal bad r ≡ some (s .number, s .detail)
   RowSays pool r t notes notes′ heads′ RowSize.Crowded = length notes′ < most-notes
 

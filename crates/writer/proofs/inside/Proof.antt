@@ -2,7 +2,6 @@ use native.Mathlib.Omega.{arith}
 use Prim.Native.Nat.{ℕ, _+_, _*_, _-_, _≤_, _<_}
 use lib.ListN.{length}
 use Rattle.writer_spec.specs.Search.{endOf}
-use Rattle.writer.specs.Index.{Inside}
 use Rattle.writer.proofs.Indexing.{inside-more}
 use Rattle.writer.proofs.inside.Statement.{statement}
 use Rattle.writer.proofs.inside.Tie as tie

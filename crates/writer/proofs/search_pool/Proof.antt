@@ -1,7 +1,6 @@
 use native.Mathlib.Omega.{arith}
 use mathlib.Core.Path.{_≡_, sym, _∙_}
 use Prim.Native.Nat.{_+_, _*_, _-_, _≤_}
-use borrow.Author.Needs.{needs}
 use Rattle.writer.specs.Answers.{searched}
 use Rattle.writer.proofs.Searches.{left, left-all, left-end, left-bad, left-found, left-other}
 use Rattle.writer.proofs.search_pool.Statement.{statement}
