@@ -15,3 +15,4 @@ pub mod Remaining
 pub mod Starred
 pub mod Shapes
 pub mod Stores
+pub mod Turn

@@ -29,8 +29,8 @@ use Rattle.scanner.specs.declared.fill.Filled.{Filled}
 use Rattle.scanner.specs.declared.fill.Ahead.{Ahead}
 use Rattle.scanner.proofs.Rows.{name-within, attribute-is, attribute-name, attribute-value}
 use Rattle.scanner.proofs.Keeping.{pairs-turn}
-use Rattle.scanner.proofs.Walk.{soundOf, Keeping, keeping-more, keeping-done, keeping-rest, first-room, first-fits, event-tag, event-single, item-placed, room-after, row-words, ended-attribute, attribute-fits}
-use Rattle.scanner.proofs.Rest.{rest, rest-more}
+use Rattle.scanner.proofs.Walk.{soundOf, Keeping, keeping-more, keeping-done, keeping-rest, first-room, first-fits, event-tag, event-single, item-placed, room-after, row-words, ended-attribute}
+use Rattle.grammar.specs.Turn.{attribute-fits, rest, rest-more}
 
 -- ---- what was read
 

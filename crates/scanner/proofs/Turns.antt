@@ -19,7 +19,7 @@ use Rattle.scanner.specs.declared.quick.Flat.{Flat}
 use Rattle.scanner.specs.declared.quick.Taken.{Taken}
 use Rattle.scanner.specs.Answers.{asTag}
 use Rattle.scanner.specs.Quick.{wordsOf, KnownName, ReadAttribute, ReadRest, ReadEvent}
-use Rattle.scanner.proofs.Rest.{rest, rest-more, rest-other}
+use Rattle.grammar.specs.Turn.{rest, rest-more, rest-other}
 use Rattle.scanner.proofs.Rows.{first-tag}
 
 module _ (names source base : ℕ) (table : List ℕ) where

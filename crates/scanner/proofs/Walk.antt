@@ -24,7 +24,7 @@ use Rattle.scanner.specs.Answers.{Got, poolGrown}
 use Rattle.wire.specs.Limits.{maxStore}
 use Rattle.scanner.specs.declared.Pool.{Pool}
 use Rattle.scanner.specs.Keep.{PoolAfter, RefRoom, NameRoom, ValueRoom, RefPlaced, NamePlaced, ValuePlaced, ItemPlaced, Ended, Keepable, Writable}
-use Rattle.scanner.proofs.Rest.{rest, rest-short, rest-stops}
+use Rattle.grammar.specs.Turn.{rest, rest-short, rest-stops}
 use Rattle.scanner.proofs.Keeping.{pairs-turn}
 
 -- ---- an event that was read well: each of its rows was
@@ -61,10 +61,6 @@ module _ (S : ℕ → Bool) (s : List ℕ) (names : ℕ) where
 
     pub ended-first : Got (first S names s 0)
     ended-first = go-first (first S names s 0) refl
-
-  -- a row that was read, and the place after it
-  pub attribute-fits : (at : ℕ) (i : Item) (n : ℕ) → at ≤ length s → attribute S names s at ≡ got i n → (at < n) × (n ≤ length s) × ItemFits (length s) names i
-  attribute-fits at i n h e = let w = rw e at (good-attribute s [] S names .law at h) in (omega (arith, w .0), w .1, w .2)
 
   pub first-fits : (i : Item) (n : ℕ) → first S names s 0 ≡ got i n → (n ≤ length s) × ItemFits (length s) names i
   first-fits i n e = let w = rw e at (good-first s [] S names .law 0 (omega arith)) in (w .1, w .2)

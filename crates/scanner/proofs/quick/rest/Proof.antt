@@ -7,7 +7,8 @@ use Rattle.wire.specs.Token.{command}
 use Rattle.event.specs.Row.{shapes}
 use Rattle.grammar.specs.Scan.{sound}
 use Rattle.scanner.specs.Quick.{countOf, countsOf, wordCounts}
-use Rattle.scanner.proofs.Rest.{rest, none-yet, attribute-moves, attribute-within}
+use Rattle.grammar.specs.Turn.{rest}
+use Rattle.scanner.proofs.Rest.{none-yet, attribute-moves, attribute-within}
 use Rattle.scanner.proofs.Turns.{Left, left-all, left-more, left-other}
 use Rattle.scanner.proofs.quick.rest.Statement.{statement}
 use Rattle.scanner.proofs.quick.rest.Tie as tie
