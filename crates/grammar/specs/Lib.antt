@@ -16,3 +16,8 @@ pub mod Starred
 pub mod Shapes
 pub mod Stores
 pub mod Turn
+pub mod Binds
+pub mod Fields
+pub mod Names
+pub mod Values
+pub mod Rows

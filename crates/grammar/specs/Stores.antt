@@ -19,6 +19,20 @@ pub sets-append : (l : List ℕ) (i : ℕ) (a b : List ℕ) → sets l i (a ++ b
 sets-append l i [] b = rw add-zero
 sets-append l i (x ∷ a) b = sets-append (set l i x) (suc i) a b ∙ ap (λ (k : ℕ). sets (sets (set l i x) (suc i) a) k b) (omega arith)
 
+-- the eight words of a row
+pub put-turn : (rows : List ℕ) (to a b c d e f g h : ℕ)
+    → set (set (set (set (set (set (set (set rows to a) (to + 1) b) (to + 2) c) (to + 3) d) (to + 4) e) (to + 5) f) (to + 6) g) (to + 7) h
+    ≡ sets rows to (a ∷ b ∷ c ∷ d ∷ e ∷ f ∷ g ∷ h ∷ [])
+put-turn rows to a b c d e f g h =
+    let n₁ : suc to ≡ to + 1 = omega arith in
+    let n₂ : suc (suc to) ≡ to + 2 = omega arith in
+    let n₃ : suc (suc (suc to)) ≡ to + 3 = omega arith in
+    let n₄ : suc (suc (suc (suc to))) ≡ to + 4 = omega arith in
+    let n₅ : suc (suc (suc (suc (suc to)))) ≡ to + 5 = omega arith in
+    let n₆ : suc (suc (suc (suc (suc (suc to))))) ≡ to + 6 = omega arith in
+    let n₇ : suc (suc (suc (suc (suc (suc (suc to)))))) ≡ to + 7 = omega arith in
+    rw (n₇, n₆, n₅, n₄, n₃, n₂, n₁)
+
 -- ---- the pairs and bytes of new names
 
 pub pairs-length : (base : ℕ) (ts : List Span) → length (pairs base ts) ≡ 2 * length ts

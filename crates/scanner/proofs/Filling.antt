@@ -21,13 +21,15 @@ use Rattle.grammar.specs.Said.{item-length}
 use Rattle.grammar.specs.Added.{counted-adds, countedName-adds, countedValue-adds}
 use Rattle.grammar.specs.Stores.{getD-sets, sets-append, sound-sets}
 use Rattle.grammar.specs.Laws.{RefFits, NameFits, ValueFits, ItemFits, good-string, good-blob, good-name}
-use Rattle.scanner.specs.Answers.{Got, asText, asInterned, asWord, asPair, asAttribute}
+use Rattle.scanner.specs.Answers.{asText, asInterned, asWord, asPair}
+use Rattle.grammar.specs.Binds.{Got}
+use Rattle.grammar.specs.Rows.{asAttribute}
 use Rattle.scanner.specs.Keep.{PoolAfter, NameRoom, ValueRoom, ItemPlaced, Keepable, Writable, There, wordsOf}
 use Rattle.scanner.specs.Fill.{Has, Once, Fillable, Stored, SpanPlain, WordPlain, PairPlain, RefFilled, ValueFilled, RowFilled}
 use Rattle.scanner.specs.declared.Pool.{Pool}
 use Rattle.scanner.specs.declared.fill.Filled.{Filled}
 use Rattle.scanner.specs.declared.fill.Ahead.{Ahead}
-use Rattle.scanner.proofs.Rows.{name-within, attribute-is, attribute-name, attribute-value}
+use Rattle.grammar.specs.Rows.{name-within, attribute-is, attribute-name, attribute-value}
 use Rattle.scanner.proofs.Keeping.{pairs-turn}
 use Rattle.scanner.proofs.Walk.{soundOf, Keeping, keeping-more, keeping-done, keeping-rest, first-room, first-fits, event-tag, event-single, item-placed, room-after, row-words, ended-attribute}
 use Rattle.grammar.specs.Turn.{attribute-fits, rest, rest-more}

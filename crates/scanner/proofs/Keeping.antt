@@ -57,18 +57,7 @@ copy-turn s start len store to i now h k e =
     let t : take (i + 1) d ≡ take i d ++ (getD d i 0 ∷ []) = rw add-one (take-suc d i 0 (simp length-drop (omega arith))) in
     rw (e, x, t, sets-append store to (take i d) (getD d i 0 ∷ []), l)
 
--- eight words from a place on
-pub eight : (words : List ℕ) (at : ℕ) → at + 8 ≤ length words
-    → take 8 (drop at words)
-    ≡ getD words at 0 ∷ getD words (at + 1) 0 ∷ getD words (at + 2) 0 ∷ getD words (at + 3) 0 ∷ getD words (at + 4) 0 ∷ getD words (at + 5) 0 ∷ getD words (at + 6) 0 ∷ getD words (at + 7) 0 ∷ []
-eight words at h =
-    let first : suc at ≡ at + 1 = omega arith in
-    let c₀ : drop at words ≡ getD words at 0 ∷ drop (at + 1) words = rw (← first) (drop-cons words at 0 (omega arith)) in
-    let c : (k : ℕ) → k < 8 → drop (at + k) words ≡ getD words (at + k) 0 ∷ drop (at + (k + 1)) words =
-    λ k l. (let e : suc (at + k) ≡ at + (k + 1) = omega arith in rw (← e) (drop-cons words (at + k) 0 (omega arith))) in
-    rw (c₀, c 1 (omega arith), c 2 (omega arith), c 3 (omega arith), c 4 (omega arith), c 5 (omega arith), c 6 (omega arith), c 7 (omega arith))
-
--- one word more, and one row more
+-- one word more
 pub words-turn : (words rows : List ℕ) (n i : ℕ) (now : List ℕ) → n ≤ length words → i < n → now ≡ sets rows 0 (take i words)
     → set now i (getD words i 0) ≡ sets rows 0 (take (i + 1) words)
 words-turn words rows n i now h k e =
@@ -76,14 +65,6 @@ words-turn words rows n i now h k e =
     let z : 0 + i ≡ i = omega arith in
     let t : take (i + 1) words ≡ take i words ++ (getD words i 0 ∷ []) = rw add-one (take-suc words i 0 (omega arith)) in
     rw (e, t, sets-append rows 0 (take i words) (getD words i 0 ∷ []), l, z)
-
-pub rows-turn : (words rows : List ℕ) (k : ℕ) (now now₁ : List ℕ) → 8 * k + 8 ≤ length words → now ≡ sets rows 0 (take (8 * k) words)
-    → now₁ ≡ sets now (8 * k) (take 8 (drop (8 * k) words)) → now₁ ≡ sets rows 0 (take (8 * (k + 1)) words)
-rows-turn words rows k now now₁ h e f =
-    let l : length (take (8 * k) words) ≡ 8 * k = length-take-le (8 * k) words (omega arith) in
-    let z : 0 + 8 * k ≡ 8 * k = omega arith in
-    let n : 8 * (k + 1) ≡ 8 * k + 8 = omega arith in
-    f ∙ rw (e, n, take-add (8 * k) 8 words, sets-append rows 0 (take (8 * k) words) (take 8 (drop (8 * k) words)), l, z)
 
 -- ---- names that are copied
 

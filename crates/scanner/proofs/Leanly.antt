@@ -13,14 +13,15 @@ use Rattle.grammar.specs.Reader.{Read, got, short, refused}
 use Rattle.grammar.specs.Grammar.{Span, Ref, new, known, Value, Item, most, counted, countedName, countedValue, name, value, attribute}
 use Rattle.grammar.specs.Scan.{sound, addsRef, addsName, addsValue, lengths}
 use Rattle.grammar.specs.Laws.{good-name}
-use Rattle.scanner.specs.Answers.{asText, asInterned, asAttribute}
+use Rattle.scanner.specs.Answers.{asText, asInterned}
+use Rattle.grammar.specs.Rows.{asAttribute}
 use Rattle.scanner.specs.Lean.{pastRef, pastSpan, pastName, pastItem, pastValue, PassedItem}
 use Rattle.scanner.specs.Tally.{RefSmall, ValueSmall, Small, Bounded, Joins}
 use Rattle.scanner.specs.declared.Tally.{Tally}
 use Rattle.scanner.specs.declared.lean.Past.{Past}
 use Rattle.scanner.proofs.Tallies.{joins-none, new-added, new-bytes, counts, ref-adds}
 use Rattle.scanner.proofs.Rest.{ref-small, attribute-small}
-use Rattle.scanner.proofs.Rows.{name-within, attribute-is}
+use Rattle.grammar.specs.Rows.{name-within, attribute-is}
 
 pub text-past : (x : Read Span) → pastSpan x ≡ pastValue (asText x)
 text-past (got t n) = refl

@@ -1,16 +1,9 @@
-mod Binds
-mod Fields
-mod Names
-mod Values
-mod Rows
 mod Tallies
 mod Rest
 mod Keeping
 mod Walk
 mod Passes
 mod Stepping
-mod Flats
-mod Turns
 mod Quickly
 mod Choosing
 mod Picking

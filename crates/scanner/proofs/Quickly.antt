@@ -1,40 +1,19 @@
--- An event that the quick way took, its words put to the rows, and the step's answer then.
+-- An event that the quick way took, and the step's answer then.
 use mathlib.Core.Bool.{Bool, false, cond}
-use mathlib.Core.List.{List, [], _++_}
+use mathlib.Core.List.{List, []}
 use mathlib.Core.Path.{_≡_, refl, sym, ap, _∙_}
 use Prim.Native.Nat.{ℕ, _+_, _*_, _/_, _≤_, _<_}
 use native.Mathlib.Omega.{arith}
 use borrow.Author.Tests.{le-ltb}
-use lib.ListN.{length, take, drop}
-use lib.Seq.{sets, sets-eq, length-sets, take-at}
+use lib.ListN.{length}
+use lib.Seq.{sets}
 use Rattle.grammar.specs.Choice.{byTest}
 use Rattle.grammar.specs.Grammar.{Span, Items, event}
-use Rattle.grammar.specs.Said.{words-length}
 use Rattle.grammar.specs.Scan.{sound, adds, lengths, pairs, copiedPairs, joined, count, words, Outcome}
-use Rattle.scanner.specs.declared.quick.Taken.{Taken}
-use Rattle.scanner.specs.Quick.{ReadEvent}
-use Rattle.scanner.specs.Step.{gives, Left, written, handOut, byOutcome, step, tooLong, outside, Quickly, declined, taken, SteppedQuickly}
+use Rattle.quick.specs.declared.Taken.{Taken}
+use Rattle.quick.specs.Quick.{Quickly, declined, taken}
+use Rattle.scanner.specs.Step.{gives, Left, written, handOut, byOutcome, step, tooLong, outside, SteppedQuickly}
 use Rattle.scanner.proofs.Stepping.{not-outside}
-
-module _ (is : Items) (names source base : ℕ) (table ws ws₁ : List ℕ) (t : Taken) (r : ReadEvent is names source base table ws ws₁ t) (l : length ws ≡ 80) where
-  abbrev its : List ℕ
-  its = words source base table is
-
-  its-length : length its ≡ 8 * t .rows
-  its-length = words-length source base table is ∙ ap (λ (x : ℕ). 8 * x) (r .counted)
-
-  pub quick-long : 80 ≡ length ws₁
-  quick-long = sym (ap length (r .stored) ∙ length-sets ws 0 its ∙ l)
-
-  pub quick-fits : 8 * t .rows ≤ length ws₁
-  quick-fits = omega (arith, quick-long, r .few)
-
-  pub quick-taken : (rows rows₁ : List ℕ) → 0 < t .len → t .rows ≤ length rows / 8 → rows₁ ≡ sets rows 0 (take (8 * t .rows) ws₁) → Quickly is names source base table rows rows₁ t
-  quick-taken rows rows₁ h k e =
-      let z : 0 + length its ≤ length ws = omega (arith, its-length, r .few) in
-      let x : ws₁ ≡ its ++ drop (0 + length its) ws = r .stored ∙ sets-eq its ws 0 z in
-      let w : take (8 * t .rows) ws₁ ≡ its = ap (λ (v : List ℕ). take (8 * t .rows) v) x ∙ take-at its (drop (0 + length its) ws) (8 * t .rows) its-length in
-      taken h (r .ends) (r .counted) k (r .none-new) (e ∙ ap (λ (v : List ℕ). sets rows 0 v) w)
 
 module _ (s : List ℕ) (base : ℕ) (finished copied : Bool) (names used : ℕ) (table store rows rows₁ : List ℕ) (stored : ℕ) (t : Taken) where
   abbrev is : Items
@@ -64,12 +43,6 @@ module _ (s : List ℕ) (base : ℕ) (finished copied : Bool) (names used : ℕ)
     taken-is (declined a b) n = absurd (n a)
     taken-is (taken h a b c d q) n =
         complete-is (adds names is) d b c q ∙ ap by (sym (a finished)) ∙ rw (e, f, ← g)
-
--- ---- an end tag, whose row is put where it belongs
-
-pub row-taken : (is : Items) (names source base : ℕ) (table rows rows₁ : List ℕ) (t : Taken) → ReadEvent is names source base table rows rows₁ t → 0 < t .len → t .rows ≤ length rows / 8
-    → Quickly is names source base table rows rows₁ t
-row-taken is names source base table rows rows₁ t r h k = taken h (r .ends) (r .counted) k (r .none-new) (r .stored)
 
 -- ---- the quick way of a step
 

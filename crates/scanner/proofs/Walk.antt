@@ -20,7 +20,8 @@ use Rattle.grammar.specs.Said.{item-length}
 use Rattle.grammar.specs.Laws.{RefFits, NameFits, ValueFits, ItemFits, good-attribute, good-first}
 use Rattle.grammar.specs.Added.{countedName-adds, countedValue-adds, after-adds}
 use Rattle.grammar.specs.Stores.{sets-append, sound-sets}
-use Rattle.scanner.specs.Answers.{Got, poolGrown}
+use Rattle.scanner.specs.Answers.{poolGrown}
+use Rattle.grammar.specs.Binds.{Got}
 use Rattle.wire.specs.Limits.{maxStore}
 use Rattle.scanner.specs.declared.Pool.{Pool}
 use Rattle.scanner.specs.Keep.{PoolAfter, RefRoom, NameRoom, ValueRoom, RefPlaced, NamePlaced, ValuePlaced, ItemPlaced, Ended, Keepable, Writable}
@@ -264,20 +265,6 @@ module _ (base l : ℕ) (table : List ℕ) (h : base + l ≤ maxStore) where
 pub row-words : (rows : List ℕ) (to kind type type′ : ℕ) (n n′ v v′ : List ℕ) → n ≡ n′ → type ≡ type′ → v ≡ v′
     → sets rows to (kind ∷ (n ++ (type ∷ v))) ≡ sets rows to (kind ∷ (n′ ++ (type′ ∷ v′)))
 row-words rows to kind type type′ n n′ v v′ e f g = rw (e, f, g)
-
--- the eight stores
-pub put-turn : (rows : List ℕ) (to a b c d e f g h : ℕ)
-    → set (set (set (set (set (set (set (set rows to a) (to + 1) b) (to + 2) c) (to + 3) d) (to + 4) e) (to + 5) f) (to + 6) g) (to + 7) h
-    ≡ sets rows to (a ∷ b ∷ c ∷ d ∷ e ∷ f ∷ g ∷ h ∷ [])
-put-turn rows to a b c d e f g h =
-    let n₁ : suc to ≡ to + 1 = omega arith in
-    let n₂ : suc (suc to) ≡ to + 2 = omega arith in
-    let n₃ : suc (suc (suc to)) ≡ to + 3 = omega arith in
-    let n₄ : suc (suc (suc (suc to))) ≡ to + 4 = omega arith in
-    let n₅ : suc (suc (suc (suc (suc to)))) ≡ to + 5 = omega arith in
-    let n₆ : suc (suc (suc (suc (suc (suc to))))) ≡ to + 6 = omega arith in
-    let n₇ : suc (suc (suc (suc (suc (suc (suc to)))))) ≡ to + 7 = omega arith in
-    rw (n₇, n₆, n₅, n₄, n₃, n₂, n₁)
 
 abbrev pub WritesTo : ℕ → ℕ → List ℕ → List ℕ → Pool → List ℕ → ℕ → ℕ → List ℕ
 WritesTo pooled base s table pool rows to at = sets rows to (words pooled base table (rest (soundOf pool table) s (pool .names) at))

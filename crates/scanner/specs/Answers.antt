@@ -5,9 +5,9 @@ use mathlib.Core.Path.{_≡_}
 use Prim.Native.Nat.{ℕ, _+_}
 use lib.Dec.{ltb}
 use Rattle.wire.specs.Refusal.{unexpectedEof}
-use Rattle.wire.specs.Token as Token
-use Rattle.grammar.specs.Reader.{Read, Reader, got, short, refused, next, _>>=_, give}
-use Rattle.grammar.specs.Grammar.{Span, Ref, new, known, Value, Item, most, string}
+use Rattle.grammar.specs.Reader.{Read, got, short, refused, next}
+use Rattle.grammar.specs.Binds.{Got}
+use Rattle.grammar.specs.Grammar.{Span, Ref, new, known, Value, Item, most}
 use Rattle.scanner.specs.declared.Number.{Number}
 use Rattle.scanner.specs.declared.Number.the-variants as Number
 use Rattle.scanner.specs.declared.Text.{Text}
@@ -40,21 +40,9 @@ nameOf (Name.Known index next) = got (known index) next
 nameOf (Name.Short k) = short k
 nameOf (Name.Refused r) = refused (r .number) (r .detail)
 
--- a value was read
-pub record Got {A : Type 0} (r : Read A) : Type 0 where
-  pub it : A
-  pub place : ℕ
-  pub is : r ≡ got it place
-
 -- where strings are not checked, what is read was read before
 pub record Trusted {A : Type 0} (check : Bool) (r : Read A) : Type 0 where
   pub again : check ≡ false → Got r
-
--- the string of a new name
-unfoldable pub newName : Reader Ref
-newName = do
-  t ← string
-  give (new t)
 
 -- ---- values
 
@@ -102,12 +90,3 @@ abbrev pub itemReadOf : ItemRead → Read Item
 itemReadOf (ItemRead.Got item place) = got (itemOf item) place
 itemReadOf (ItemRead.Short k) = short k
 itemReadOf (ItemRead.Refused r) = refused (r .number) (r .detail)
-
-abbrev pub asAttribute : Option Ref → ℕ → Read Value → Read Item
-asAttribute name type r = next r (λ v n. got (record { kind = Token.attribute; name = name; type = type; value = v }) n)
-
-abbrev pub asTag : ℕ → Read Ref → Read Item
-asTag kind r = next r (λ name n. got (record { kind = kind; name = some name; type = 0; value = Value.nothing }) n)
-
-abbrev pub asTextRow : ℕ → Read Span → Read Item
-asTextRow kind r = next r (λ t n. got (record { kind = kind; name = none; type = Token.string; value = Value.span t }) n)

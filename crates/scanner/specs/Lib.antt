@@ -4,5 +4,4 @@ pub mod Tally
 pub mod Keep
 pub mod Fill
 pub mod Step
-pub mod Quick
 pub mod Select

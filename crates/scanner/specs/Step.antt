@@ -11,7 +11,7 @@ use Rattle.wire.specs.Limits.{maxStore}
 use Rattle.grammar.specs.Grammar.{Span, Items, event}
 use Rattle.grammar.specs.Scan.{sound, adds, lengths, pairs, copiedPairs, joined, count, words, Outcome, complete, incomplete, bad, outcome}
 use Rattle.scanner.specs.declared.Pool.{Pool}
-use Rattle.scanner.specs.declared.quick.Taken.{Taken}
+use Rattle.quick.specs.declared.Taken.{Taken}
 use Rattle.scanner.specs.declared.Stepped.{Stepped}
 use Rattle.scanner.specs.declared.Stepped.the-variants as Stepped
 
@@ -93,14 +93,9 @@ readBy finished copied base pool used s table store rows =
     let is : Items = event (sound (pool .kept) table (pool .stored)) (pool .names) s in
     byOutcome s base finished copied (pool .names) used table store rows is (outcome finished is)
 
--- ---- the quick way: nothing was read and written; or an event that is complete, whether more bytes come or not, with no new name
+-- ---- the quick way
 
-pub data Quickly (is : Items) (names source base : ℕ) (table rows rows′ : List ℕ) (t : Taken) : Type 0 where
-  declined : t .len ≡ 0 → rows′ ≡ rows → Quickly is names source base table rows rows′ t
-  taken : 0 < t .len → ((finished : Bool) → outcome finished is ≡ complete (t .len)) → count is ≡ t .rows → t .rows ≤ length rows / 8 → adds names is ≡ []
-      → rows′ ≡ sets rows 0 (words source base table is) → Quickly is names source base table rows rows′ t
-
--- the same of a step: nothing was written, or what the step gives, whether more bytes come or not
+-- nothing was written, or what the step gives, whether more bytes come or not
 pub record SteppedQuickly (s : List ℕ) (base : ℕ) (copied : Bool) (names used : ℕ) (table store rows rows′ : List ℕ) (t : Taken) : Type 0 where
   pub declines : t .len ≡ 0 → rows′ ≡ rows
   pub steps : 0 < t .len → (finished : Bool)

@@ -187,7 +187,7 @@ fn attribute(
         to,
         Command::ATTRIBUTE,
         first,
-        crate::row_type(t),
+        quick::row_type(t),
         second,
     );
     Ahead {

@@ -1,10 +1,9 @@
 // The scanner of both readers: readers of one event's fields, rows and attributes; a first pass over an event, which measures; a
 // second, which writes; and the step made of both. Module lean has the first pass's readers, module fill the second pass where names
-// stay where they are. Module quick reads common events in one pass, module select takes the rows of an event that a query asks
+// stay where they are. Crate quick reads common events in one pass; module select takes the rows of an event that a query asks
 // for. A place is counted from the event's first byte, where the slice starts.
 mod fill;
 mod lean;
-pub mod quick;
 pub mod select;
 
 use event::Shape;
@@ -29,8 +28,10 @@ ghost use Rattle.grammar.specs.Scan.{sound, outcome, measure, addsRef, addsName
 ghost use Rattle.scanner.specs.Tally.{Small, NameSmall, ValueSmall, ItemSmall, Bounded, Joins, Counts, plus, outcomeOf, measuredOf};
 ghost use Rattle.scanner.specs.Lean.{PassedItem};
 ghost use Rattle.scanner.specs.Keep.{Copyable, Copied, NamePlaced, ValuePlaced, ItemPlaced, NameRoom, ValueRoom, PoolAfter, Keepable, Writable, wordsOf, moved, carried, Movable};
-ghost use Rattle.scanner.specs.Step.{Quickly, SteppedQuickly, Ready, readBy, stepOf, step, tooLong, outside};
-ghost use Rattle.scanner.specs.Answers.{numberOf, textOf, nameOf, newName, valueReadOf, asText, asInterned, asWord, asPair, valueOf, itemOf, poolGrown, referenceOf, asAttribute, asTag, asTextRow, itemReadOf, Trusted};
+ghost use Rattle.scanner.specs.Step.{SteppedQuickly, Ready, readBy, stepOf, step, tooLong, outside};
+ghost use Rattle.scanner.specs.Answers.{numberOf, textOf, nameOf, valueReadOf, asText, asInterned, asWord, asPair, valueOf, itemOf, poolGrown, referenceOf, itemReadOf, Trusted};
+ghost use Rattle.grammar.specs.Names.{newName};
+ghost use Rattle.grammar.specs.Rows.{asAttribute, asTag, asTextRow};
 
 // ---- fields
 
@@ -1021,16 +1022,6 @@ fn value_words(pooled: u32, base: usize, table: &[u32], value: Value) -> Words
     }
 }
 
-// An interned string is a string in a row.
-fn row_type(type_: u32) -> u32
-    ensures { λ r. ⌜ r ≡ typeOf «type_» ⌝ }
-{
-    if type_ == Type::STRING_INTERNED {
-        return Type::STRING;
-    }
-    type_
-}
-
 // The eight words of a row, from a place on.
 fn put_row(rows: &mut [u32], to: usize, kind: u32, name: Words, type_: u32, value: Words)
     requires { ⌜ to + 8 ≤ length (now rows) ⌝ }
@@ -1055,7 +1046,7 @@ fn put_item(rows: &mut [u32], to: usize, pooled: u32, base: usize, table: &[u32]
     let value = item.value;
     let n = name_words(pooled, base, table, name);
     let v = value_words(pooled, base, table, value);
-    let t = row_type(item.type_);
+    let t = quick::row_type(item.type_);
     put_row(rows, to, item.kind, n, t, v)
 }
 
@@ -1251,112 +1242,6 @@ fn put_words(rows: &mut [u32], words: &[u32], n: usize)
     }
 }
 
-// A row's eight words, to the same place.
-fn copy_row(rows: &mut [u32], words: &[u32], at: usize)
-    requires { ⌜ (at + 8 ≤ length (now words)) × (at + 8 ≤ length (now rows)) ⌝ }
-    ensures { λ _. ⌜ now (rows .exit) ≡ sets (now (rows .entry)) at (take 8 (drop at (now (words .entry)))) ⌝ }
-{
-    let name = Words {
-        source: words[at + 1],
-        a: words[at + 2],
-        b: words[at + 3],
-    };
-    let value = Words {
-        source: words[at + 5],
-        a: words[at + 6],
-        b: words[at + 7],
-    };
-    put_row(rows, at, words[at], name, words[at + 4], value);
-}
-
-// So many rows, from the front of one slice to the front of another. Row by row, which makes vector moves: a loop over single words
-// becomes a call of memcpy.
-fn put_rows(rows: &mut [u32], words: &[u32], count: usize)
-    requires { ⌜ (8 * count ≤ length (now words)) × (8 * count ≤ length (now rows)) ⌝ }
-    ensures { λ _. ⌜ now (rows .exit) ≡ sets (now (rows .entry)) 0 (take (8 * count) (now (words .entry))) ⌝ }
-{
-    let mut k = 0;
-    while k < count {
-        copy_row(rows, words, 8 * k);
-        k += 1;
-    }
-}
-
-// An end tag whose name is known: its row needs no array. A length of 0: it was not, and nothing is written.
-fn end_quickly(
-    s: &[u8],
-    base: usize,
-    copied: bool,
-    table: &[u32],
-    pool: Pool,
-    rows: &mut [u32],
-) -> Taken
-    requires { ⌜ 3 ≤ length (now s) ⌝ }
-    requires { ⌜ 2 * pool .kept ≤ length (now table) ⌝ }
-    requires { ⌜ pool .kept ≡ pool .names ⌝ }
-    requires { ⌜ command (getD (now s) 0 0) ≡ endTag ⌝ }
-    ensures { λ r. ⌜ Quickly (event (sound (pool .kept) (now (table .entry)) (pool .stored)) (pool .names) (now (s .entry))) (pool .names) (cond copied 1 0) base (now (table .entry)) (now (rows .entry)) (now (rows .exit)) r ⌝ }
-{
-    let no = Taken { rows: 0, len: 0 };
-    if rows.len() < 8 {
-        return no;
-    }
-    let name = quick::known(s, 1, quick::pooled(copied), table, pool);
-    if name.next == 0 {
-        return no;
-    }
-    let words = Words {
-        source: name.source,
-        a: name.a,
-        b: name.b,
-    };
-    let none = Words {
-        source: 0,
-        a: 0,
-        b: 0,
-    };
-    put_row(rows, 0, Command::END_TAG, words, 0, none);
-    Taken { rows: 1, len: 3 }
-}
-
-// The event that stands in s, read and written in one pass where it is one of the commonest and there is room for its rows. A
-// length of 0: it was not, and nothing is written.
-fn read_quickly(
-    s: &[u8],
-    base: usize,
-    copied: bool,
-    table: &[u32],
-    pool: Pool,
-    rows: &mut [u32],
-) -> Taken
-    requires { ⌜ base + length (now s) ≤ maxStore ⌝ }
-    requires { ⌜ 2 * pool .kept ≤ length (now table) ⌝ }
-    requires { ⌜ pool .kept ≡ pool .names ⌝ }
-    ensures { λ r. ⌜ Quickly (event (sound (pool .kept) (now (table .entry)) (pool .stored)) (pool .names) (now (s .entry))) (pool .names) (cond copied 1 0) base (now (table .entry)) (now (rows .entry)) (now (rows .exit)) r ⌝ }
-{
-    let no = Taken { rows: 0, len: 0 };
-    if s.len() < 3 {
-        return no;
-    }
-    let kind = (s[0] % 16) as u32;
-    if kind == Command::END_TAG {
-        return end_quickly(s, base, copied, table, pool, rows);
-    }
-    if kind != Command::START_TAG {
-        return no;
-    }
-    let mut words = [0u32; 80];
-    let taken = quick::quick(s, base, copied, table, pool, &mut words);
-    if taken.len == 0 {
-        return no;
-    }
-    if rows.len() / 8 < taken.rows {
-        return no;
-    }
-    put_rows(rows, &words, taken.rows);
-    taken
-}
-
 // Whether a store that a span lies in, of the input or of names, is longer than any may be.
 fn is_too_long(base: usize, len: usize, copied: bool, store: usize) -> bool
     ensures { λ r. ⌜ r ≡ tooLong base len copied store ⌝ }
@@ -1414,12 +1299,8 @@ pub fn step_quickly(
     if is_outside(table.len(), names, copied, used, store.len()) {
         return Taken { rows: 0, len: 0 };
     }
-    let pool = Pool {
-        kept: names,
-        stored: stored_in(copied, store.len(), base + s.len()),
-        names,
-    };
-    read_quickly(s, base, copied, table, pool, rows)
+    let stored = stored_in(copied, store.len(), base + s.len());
+    quick::read(s, base, copied, names, stored, table, rows)
 }
 
 // The step below by the two passes alone.

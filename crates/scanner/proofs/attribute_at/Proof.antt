@@ -1,5 +1,5 @@
-use Rattle.scanner.proofs.Rows.{type-is, type-small, name-within, attribute-short, attribute-refused, attribute-is, attribute-name, attribute-value}
-use Rattle.scanner.proofs.Binds.{got-same}
+use Rattle.grammar.specs.Rows.{type-is, type-small, name-within, attribute-short, attribute-refused, attribute-is, attribute-name, attribute-value}
+use Rattle.grammar.specs.Binds.{got-same}
 use Rattle.scanner.specs.Answers.{nameOf, poolGrown}
 use Rattle.grammar.specs.Scan.{sound}
 use Rattle.grammar.specs.Grammar.{counted}

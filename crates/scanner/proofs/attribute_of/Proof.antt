@@ -1,4 +1,5 @@
-use Rattle.scanner.specs.Answers.{referenceOf, asAttribute, valueReadOf}
+use Rattle.scanner.specs.Answers.{referenceOf, valueReadOf}
+use Rattle.grammar.specs.Rows.{asAttribute}
 use mathlib.Core.Path.{sym, ap}
 use borrow.Author.Needs.{needs}
 use Rattle.scanner.proofs.attribute_of.Statement.{statement}

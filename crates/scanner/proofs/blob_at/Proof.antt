@@ -1,4 +1,4 @@
-use Rattle.scanner.proofs.Fields.{u16-within, blob-short, blob-cut, blob-good}
+use Rattle.grammar.specs.Fields.{u16-within, blob-short, blob-cut, blob-good}
 use Rattle.scanner.specs.Answers.{numberOf}
 use native.Mathlib.Omega.{arith}
 use mathlib.Core.Path.{sym, ap, _∙_}

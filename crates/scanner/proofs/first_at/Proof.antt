@@ -1,5 +1,5 @@
-use Rattle.scanner.proofs.Rows.{type-is, command-is, first-empty, first-bare, first-tag, first-other, first-text, first-textless, text-string, tag-name}
-use Rattle.scanner.specs.Answers.{asTag, asTextRow}
+use Rattle.grammar.specs.Rows.{type-is, command-is, first-empty, first-bare, first-tag, first-other, first-text, first-textless, text-string, tag-name}
+use Rattle.grammar.specs.Rows.{asTag, asTextRow}
 use Rattle.grammar.specs.Scan.{sound}
 use lib.ListN.{length, getD}
 use native.Mathlib.Omega.{arith}

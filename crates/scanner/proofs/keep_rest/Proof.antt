@@ -9,7 +9,7 @@ use Rattle.grammar.specs.Grammar.{attribute}
 use Rattle.scanner.specs.Answers.{itemOf, itemReadOf}
 use Rattle.grammar.specs.Scan.{addsItem, pairs}
 use Rattle.grammar.specs.Turn.{attribute-fits, rest, rest-more, rest-other, rest-end}
-use Rattle.scanner.proofs.Rows.{command-is}
+use Rattle.grammar.specs.Rows.{command-is}
 use Rattle.scanner.proofs.Walk.{soundOf, KeepsTo, Keeping, keeping-as, keeping-room, keeping-next, keeping-done, ended-attribute, never-short, never-refused}
 use Rattle.scanner.proofs.keep_rest.Statement.{statement}
 use Rattle.scanner.proofs.keep_rest.Tie as tie

@@ -5,7 +5,7 @@ use lib.ListN.{length, getD}
 use Rattle.grammar.specs.Scan.{outcome}
 use Rattle.scanner.specs.Tally.{Bounded}
 use Rattle.scanner.proofs.Rest.{asTold, Remains, remains-end, remains-other, remains-more, attribute-moves, attribute-within, bounded-more}
-use Rattle.scanner.proofs.Rows.{command-is}
+use Rattle.grammar.specs.Rows.{command-is}
 use borrow.Author.Needs.{needs}
 use Rattle.scanner.proofs.measure_rest.Statement.{statement}
 use Rattle.scanner.proofs.measure_rest.Tie as tie

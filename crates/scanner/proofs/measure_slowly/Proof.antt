@@ -1,6 +1,6 @@
 use mathlib.Core.Bool.{true≢false}
 use Rattle.scanner.proofs.Rest.{asTold, Remains, remains-end, remains-other, remains-short, remains-stops, remains-more, attribute-small, attribute-moves, attribute-within, bounded-more}
-use Rattle.scanner.proofs.Rows.{command-is}
+use Rattle.grammar.specs.Rows.{command-is}
 use Rattle.scanner.specs.Answers.{itemReadOf}
 use Rattle.scanner.specs.Tally.{Bounded}
 use Rattle.grammar.specs.Scan.{outcome}

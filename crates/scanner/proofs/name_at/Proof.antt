@@ -1,5 +1,5 @@
-use Rattle.scanner.proofs.Names.{name-short, name-new, name-unknown, name-known, name-unsound, name-string}
-use Rattle.scanner.proofs.Fields.{u16-within}
+use Rattle.grammar.specs.Names.{name-short, name-new, name-unknown, name-known, name-unsound, name-string}
+use Rattle.grammar.specs.Fields.{u16-within}
 use Rattle.scanner.specs.Answers.{numberOf}
 use Rattle.grammar.specs.Scan.{sound}
 use native.Mathlib.Omega.{arith}

@@ -1,5 +1,6 @@
-use Rattle.scanner.proofs.Binds.{bind-got, bind-short, bind-refused}
-use Rattle.scanner.specs.Answers.{textOf, newName}
+use Rattle.grammar.specs.Binds.{bind-got, bind-short, bind-refused}
+use Rattle.scanner.specs.Answers.{textOf}
+use Rattle.grammar.specs.Names.{newName}
 use Rattle.grammar.specs.Grammar.{new, string}
 use Rattle.grammar.specs.Reader.{give}
 use mathlib.Core.Path.{sym, ap, _∙_}

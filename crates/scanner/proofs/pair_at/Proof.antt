@@ -1,4 +1,4 @@
-use Rattle.scanner.proofs.Fields.{low-half, high-half}
+use Rattle.grammar.specs.Fields.{low-half, high-half}
 use Rattle.grammar.specs.Grammar.{u64}
 use borrow.Author.Tests.{lt-ltb, le-ltb}
 use borrow.Author.Needs.{needs}

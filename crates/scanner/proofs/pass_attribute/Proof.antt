@@ -5,7 +5,7 @@ use native.Mathlib.Omega.{arith}
 use lib.ListN.{getD}
 use Rattle.scanner.specs.Lean.{pastName}
 use Rattle.scanner.proofs.Leanly.{passed-within, passed-bytes, named-kept, small-still, passed-value, rows-still, passes}
-use Rattle.scanner.proofs.Rows.{type-is, type-small}
+use Rattle.grammar.specs.Rows.{type-is, type-small}
 use borrow.Author.Needs.{needs}
 use Rattle.scanner.proofs.pass_attribute.Statement.{statement}
 use Rattle.scanner.proofs.pass_attribute.Tie as tie

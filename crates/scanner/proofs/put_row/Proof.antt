@@ -1,4 +1,4 @@
-use Rattle.scanner.proofs.Walk.{put-turn}
+use Rattle.grammar.specs.Stores.{put-turn}
 use native.Mathlib.Omega.{arith}
 use lib.ListN.{length-set}
 use borrow.Author.Needs.{needs}

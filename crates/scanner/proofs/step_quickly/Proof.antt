@@ -2,7 +2,7 @@ use mathlib.Core.Path.{refl, sym, _∙_}
 use native.Mathlib.Omega.{arith}
 use lib.ListN.{length}
 use Rattle.scanner.proofs.Quickly.{passed-over, steps-quickly}
-use Rattle.scanner.proofs.Stepping.{not-long, not-outside}
+use Rattle.scanner.proofs.Stepping.{not-long}
 use borrow.Author.Needs.{needs}
 use Rattle.scanner.proofs.step_quickly.Statement.{statement}
 use Rattle.scanner.proofs.step_quickly.Tie as tie
@@ -27,10 +27,8 @@ add-stored-in c =
 stored-in-requires : tie.Need-stored-in-requires
 stored-in-requires c κs = search needs
 
-read-quickly-requires : tie.Need-read-quickly-requires
-read-quickly-requires c κs =
-    let a = c .before .before .before .before .before .before .before .before .before .before .args in
-    (not-long (a .base) (length (a .s .now)) (a .copied) (length (a .store .now)) (sym (c .before .before .before .before .before .is-too-long .ensures) ∙ c .before .before .before .before .if1 .left) .0, (not-outside (length (a .table .now)) (a .names) (a .copied) (a .used) (length (a .store .now)) (sym (c .before .before .before .is-outside .ensures) ∙ c .before .before .if2 .left) .0, refl))
+read-requires : tie.Need-read-requires
+read-requires c κs = search needs
 
 same-length : tie.Need-same-length
 same-length c = search needs
@@ -38,7 +36,7 @@ same-length c = search needs
 returns-3 : tie.Need-returns-3
 returns-3 c =
     let a = c .before .before .before .before .before .before .before .before .before .before .before .before .before .args in
-    steps-quickly (a .s .now) (a .base) (a .copied) (a .names) (a .used) (a .table .now) (a .store .now) (a .rows .now) _ _ (sym (c .before .before .before .before .before .before .before .before .is-too-long .ensures) ∙ c .before .before .before .before .before .before .before .if1 .left) (sym (c .before .before .before .before .before .before .is-outside .ensures) ∙ c .before .before .before .before .before .if2 .left) _ (c .before .before .before .before .stored-in .ensures) (c .before .before .read-quickly .ensures)
+    steps-quickly (a .s .now) (a .base) (a .copied) (a .names) (a .used) (a .table .now) (a .store .now) (a .rows .now) _ _ (sym (c .before .before .before .before .before .before .before .before .is-too-long .ensures) ∙ c .before .before .before .before .before .before .before .if1 .left) (sym (c .before .before .before .before .before .before .is-outside .ensures) ∙ c .before .before .before .before .before .if2 .left) _ (c .before .before .before .before .stored-in .ensures) (c .before .before .read .ensures)
 
 pub step-quickly-spec : {M : Type 1} → statement M
 step-quickly-spec =
@@ -50,6 +48,6 @@ step-quickly-spec =
     returns-2
     add-stored-in
     stored-in-requires
-    read-quickly-requires
+    read-requires
     same-length
     returns-3)

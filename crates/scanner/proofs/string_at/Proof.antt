@@ -1,7 +1,7 @@
 use native.Mathlib.Nat.{add-sub-cancel-left}
 use lib.ListN.{length}
 use Prim.Native.Nat.{_-_, _≤_}
-use Rattle.scanner.proofs.Fields.{u16-within, string-short, string-cut, string-good, string-broken, string-again}
+use Rattle.grammar.specs.Fields.{u16-within, string-short, string-cut, string-good, string-broken, string-again}
 use Rattle.scanner.specs.Answers.{numberOf}
 use native.Mathlib.Omega.{arith}
 use mathlib.Core.Path.{sym, ap, _∙_}

@@ -1,4 +1,5 @@
-use Rattle.scanner.specs.Answers.{asTag, nameOf}
+use Rattle.scanner.specs.Answers.{nameOf}
+use Rattle.grammar.specs.Rows.{asTag}
 use mathlib.Core.Path.{sym, ap}
 use borrow.Author.Needs.{needs}
 use Rattle.scanner.proofs.tag_of.Statement.{statement}

@@ -1,4 +1,5 @@
-use Rattle.scanner.specs.Answers.{asTextRow, textOf}
+use Rattle.scanner.specs.Answers.{textOf}
+use Rattle.grammar.specs.Rows.{asTextRow}
 use mathlib.Core.Path.{sym, ap}
 use borrow.Author.Needs.{needs}
 use Rattle.scanner.proofs.text_of.Statement.{statement}

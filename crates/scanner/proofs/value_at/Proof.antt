@@ -1,4 +1,4 @@
-use Rattle.scanner.proofs.Values.{value-by, value-string, value-name}
+use Rattle.grammar.specs.Values.{value-by, value-string, value-name}
 use Rattle.scanner.specs.Answers.{asText, asInterned, asWord}
 use Rattle.grammar.specs.Scan.{sound}
 use Rattle.grammar.specs.Grammar.{shaped}

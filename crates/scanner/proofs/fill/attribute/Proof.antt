@@ -2,7 +2,7 @@ use Prim.Native.Nat.{_<_}
 use native.Mathlib.Omega.{arith}
 use lib.ListN.{getD}
 use Rattle.scanner.proofs.Filling.{name-roomed, value-fillable, value-roomed, row-filled}
-use Rattle.scanner.proofs.Rows.{type-is, type-small}
+use Rattle.grammar.specs.Rows.{type-is, type-small}
 use borrow.Author.Needs.{needs}
 use Rattle.scanner.proofs.fill.attribute.Statement.{statement}
 use Rattle.scanner.proofs.fill.attribute.Tie as tie

@@ -1,7 +1,7 @@
 use mathlib.Core.Path.{refl}
 use borrow.Author.Tests.{lt-ltb, le-ltb}
 use Rattle.grammar.specs.Grammar.{u64}
-use Rattle.scanner.proofs.Fields.{low-half, high-half}
+use Rattle.grammar.specs.Fields.{low-half, high-half}
 use borrow.Author.Needs.{needs}
 use Rattle.scanner.proofs.fill.pair.Statement.{statement}
 use Rattle.scanner.proofs.fill.pair.Tie as tie

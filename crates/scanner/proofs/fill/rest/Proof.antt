@@ -7,7 +7,7 @@ use lib.Seq.{sets}
 use Rattle.grammar.specs.Scan.{words}
 use Rattle.scanner.proofs.Filling.{Filling, filling-as, filling-done, filled, turn-fillable, turn-has, turn-row, turn-moves, turn-lengths, turn-more}
 use Rattle.grammar.specs.Turn.{rest, rest-other, rest-end}
-use Rattle.scanner.proofs.Rows.{command-is}
+use Rattle.grammar.specs.Rows.{command-is}
 use Rattle.scanner.proofs.Walk.{soundOf, KeepsTo}
 use borrow.Author.Needs.{needs}
 use Rattle.scanner.proofs.fill.rest.Statement.{statement}

@@ -4,7 +4,7 @@ use Rattle.event.specs.declared.Shape.the-variants as Shape
 use Rattle.grammar.specs.Grammar.{u32, u64, string, blob, name, shaped, countedValue}
 use Rattle.grammar.specs.Scan.{sound, addsValue, pairs, valueWords}
 use Rattle.scanner.proofs.Filling.{has-got, has-as, once-got, once-refused, once-as, string-stored, blob-stored, text-filled, word-filled, pair-filled, name-filled, name-has}
-use Rattle.scanner.proofs.Values.{value-by, value-string}
+use Rattle.grammar.specs.Values.{value-by, value-string}
 use borrow.Author.Needs.{needs}
 use Rattle.scanner.proofs.fill.value.Statement.{statement}
 use Rattle.scanner.proofs.fill.value.Tie as tie

@@ -5,7 +5,7 @@ use Rattle.grammar.specs.Grammar.{string, blob, name, shaped}
 use Rattle.grammar.specs.Scan.{sound}
 use Rattle.scanner.specs.Lean.{pastSpan, pastName, pastValue}
 use Rattle.scanner.proofs.Leanly.{text-past, name-past}
-use Rattle.scanner.proofs.Values.{value-by}
+use Rattle.grammar.specs.Values.{value-by}
 use borrow.Author.Needs.{needs}
 use Rattle.scanner.proofs.lean.after_value.Statement.{statement}
 use Rattle.scanner.proofs.lean.after_value.Tie as tie

@@ -1,0 +1,26 @@
+-- A value, by the shape of its type.
+use mathlib.Core.Bool.{Bool}
+use mathlib.Core.List.{List}
+use mathlib.Core.Path.{_≡_, sym, _∙_}
+use Prim.Native.Nat.{ℕ}
+use Rattle.event.specs.Row.{shape}
+use Rattle.event.specs.declared.Shape.{Shape}
+use Rattle.event.specs.declared.Shape.the-variants as Shape
+use Rattle.grammar.specs.Reader.{give}
+use Rattle.grammar.specs.Grammar.{span, interned, string, name, shaped, value}
+use Rattle.grammar.specs.Binds.{Got, first-got}
+
+module _ (sound : ℕ → Bool) (names type : ℕ) (s : List ℕ) (at : ℕ) where
+  pub value-by : (h : Shape) → shape type ≡ h → value sound names type s at ≡ shaped sound names type h s at
+  unfolding value
+  value-by h e = rw e
+
+  -- where the value was read, its string or its name was
+  pub value-string : shape type ≡ Shape.String → Got (value sound names type s at) → Got (string s at)
+  unfolding shaped
+  value-string e g = first-got string (λ t. give (span t)) s at (record { it = g .it; place = g .place; is = sym (value-by Shape.String e) ∙ g .is })
+
+  pub value-name : shape type ≡ Shape.Interned → Got (value sound names type s at) → Got (name sound names s at)
+  unfolding shaped
+  value-name e g =
+      first-got (name sound names) (λ r. give (interned r)) s at (record { it = g .it; place = g .place; is = sym (value-by Shape.Interned e) ∙ g .is })

@@ -1,0 +1,4 @@
+mod Flats
+mod Turns
+mod Copies
+mod Quickly
