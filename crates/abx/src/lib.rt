@@ -28,7 +28,7 @@ pub extern "C" fn abx_is_utf8(s: &[u8]) -> bool
 pub extern "C" fn abx_slice_create(document: &[u8], pool: &[u32], answer: &mut [usize])
     ensures { λ _. ⌜ now (answer .exit) ≡ answered (now (answer .entry)) (createdWords (Slice.create (now (document .entry)) (now (pool .entry)))) ⌝ }
 {
-    abx_words::tell_created(answer, slice::create(document, pool))
+    slice_words::tell_created(answer, slice::create(document, pool))
 }
 
 // 0, rows, place and names; or 1; or 2, number and detail.
@@ -44,7 +44,7 @@ pub extern "C" fn abx_slice_next(
     ensures { λ _. ⌜ NextLeft (now (answer .entry)) (now (answer .exit)) (now (pool .exit)) (now (rows .exit)) (Slice.next (record { at = at; names = names }) (now (document .entry)) (now (pool .entry)) (now (rows .entry))) ⌝ }
 {
     let place = Place { at, names };
-    abx_words::tell_next(answer, slice::next_event(place, document, pool, rows))
+    slice_words::tell_next(answer, slice::next_event(place, document, pool, rows))
 }
 
 // ---- the chunk reader
@@ -61,7 +61,7 @@ pub extern "C" fn abx_stream_create(
     ensures { λ _. ⌜ OpenLeft (now (state .entry)) (now (state .exit)) (now (answer .entry)) (now (answer .exit)) (opened (now (state .entry)) (Chunks.create (lend (now (window .entry)) (now (pool .entry)) (now (store .entry))))) ⌝ }
 {
     let created = stream::create(window, pool, store);
-    abx_words::tell_opened(state, answer, created)
+    stream_words::tell_opened(state, answer, created)
 }
 
 // 0 and the bytes taken; or 2, number and detail.
@@ -76,9 +76,9 @@ pub extern "C" fn abx_stream_feed(
 )
     ensures { λ _. ⌜ StreamLeft (now (state .entry)) (now (state .exit)) (now (answer .entry)) (now (answer .exit)) (now (window .exit)) (now (pool .entry)) (now (store .entry)) [] (Chunks.feed (streamIn (now (state .entry))) (lend (now (window .entry)) (now (pool .entry)) (now (store .entry))) (now (chunk .entry))) ⌝ }
 {
-    let before = abx_words::stream_in(state);
+    let before = stream_words::stream_in(state);
     let fed = stream::feed(before, window, pool, store, chunk);
-    abx_words::tell_fed(state, answer, fed)
+    stream_words::tell_fed(state, answer, fed)
 }
 
 // 0; or 2, number and detail.
@@ -92,9 +92,9 @@ pub extern "C" fn abx_stream_finish(
 )
     ensures { λ _. ⌜ StreamLeft (now (state .entry)) (now (state .exit)) (now (answer .entry)) (now (answer .exit)) (now (window .entry)) (now (pool .entry)) (now (store .entry)) [] (Chunks.finish (streamIn (now (state .entry))) (lend (now (window .entry)) (now (pool .entry)) (now (store .entry)))) ⌝ }
 {
-    let before = abx_words::stream_in(state);
+    let before = stream_words::stream_in(state);
     let closed = stream::finish(before, window, pool, store);
-    abx_words::tell_closed(state, answer, closed)
+    stream_words::tell_closed(state, answer, closed)
 }
 
 // 0 and rows; 1; 3 where more is needed; or 2, number and detail.
@@ -109,9 +109,9 @@ pub extern "C" fn abx_stream_next(
 )
     ensures { λ _. ⌜ StreamLeft (now (state .entry)) (now (state .exit)) (now (answer .entry)) (now (answer .exit)) (now (window .entry)) (now (pool .exit)) (now (store .exit)) (now (rows .exit)) (Chunks.next (streamIn (now (state .entry))) (lend (now (window .entry)) (now (pool .entry)) (now (store .entry))) (now (rows .entry))) ⌝ }
 {
-    let before = abx_words::stream_in(state);
+    let before = stream_words::stream_in(state);
     let next = stream::next(before, window, pool, store, rows);
-    abx_words::tell_answer(state, answer, next)
+    stream_words::tell_answer(state, answer, next)
 }
 
 // ---- the writer
@@ -121,7 +121,7 @@ pub extern "C" fn abx_stream_next(
 pub extern "C" fn abx_writer_create(output: &mut [u8], pool: &[u32], answer: &mut [usize])
     ensures { λ _. ⌜ WriteLeft (now (answer .entry)) (now (answer .exit)) (now (output .exit)) (now (pool .entry)) (Spec.create (record { output = now (output .entry); table = now (pool .entry) })) ⌝ }
 {
-    abx_words::tell_written(answer, writer::create(output, pool))
+    writer_words::tell_written(answer, writer::create(output, pool))
 }
 
 #[no_mangle]
@@ -138,7 +138,7 @@ pub extern "C" fn abx_write_event<'a>(
     ensures { λ _. ⌜ WriteLeft (now (answer .entry)) (now (answer .exit)) (now (output .exit)) (now (pool .exit)) (Spec.writeEvent (record { written = written; names = names }) (now (first .entry)) (now (second .entry)) (now (rows .entry)) (record { output = now (output .entry); table = now (pool .entry) })) ⌝ }
 {
     let w = Writer { written, names };
-    abx_words::tell_written(
+    writer_words::tell_written(
         answer,
         writer::write_event(w, first, second, rows, output, pool),
     )
@@ -158,7 +158,7 @@ pub extern "C" fn abx_write_events<'a>(
     ensures { λ _. ⌜ WriteLeft (now (answer .entry)) (now (answer .exit)) (now (output .exit)) (now (pool .exit)) (Spec.writeEvents (record { written = written; names = names }) (now (first .entry)) (now (second .entry)) (now (rows .entry)) (record { output = now (output .entry); table = now (pool .entry) })) ⌝ }
 {
     let w = Writer { written, names };
-    abx_words::tell_written(
+    writer_words::tell_written(
         answer,
         writer::write_events(w, first, second, rows, output, pool),
     )

@@ -20,7 +20,7 @@ pub extern "C" fn abx_find_attribute(
     ensures { λ _. ⌜ QueryLeft (now (answer .entry)) (now (answer .exit)) (now (pool .exit)) (now (rows .exit)) (query (find-attribute (now (element .entry)) (now (name .entry))) (record { at = at; names = names }) (now (document .entry)) (now (pool .entry)) (now (rows .entry))) ⌝ }
 {
     let place = Place { at, names };
-    abx_words::queries::tell(
+    slice_words::queries::tell(
         answer,
         slice::queries::find_attribute(place, document, pool, rows, element, name),
     )
@@ -40,7 +40,7 @@ pub extern "C" fn abx_attributes_of(
     ensures { λ _. ⌜ QueryLeft (now (answer .entry)) (now (answer .exit)) (now (pool .exit)) (now (rows .exit)) (query (attributes-of (now (element .entry))) (record { at = at; names = names }) (now (document .entry)) (now (pool .entry)) (now (rows .entry))) ⌝ }
 {
     let place = Place { at, names };
-    abx_words::queries::tell(
+    slice_words::queries::tell(
         answer,
         slice::queries::attributes_of(place, document, pool, rows, element),
     )
@@ -61,7 +61,7 @@ pub extern "C" fn abx_find_all_attributes(
     ensures { λ _. ⌜ QueryLeft (now (answer .entry)) (now (answer .exit)) (now (pool .exit)) (now (rows .exit)) (query (find-all-attributes (now (element .entry)) (now (name .entry))) (record { at = at; names = names }) (now (document .entry)) (now (pool .entry)) (now (rows .entry))) ⌝ }
 {
     let place = Place { at, names };
-    abx_words::queries::tell(
+    slice_words::queries::tell(
         answer,
         slice::queries::find_all_attributes(place, document, pool, rows, element, name),
     )
@@ -81,7 +81,7 @@ pub extern "C" fn abx_all_attributes_of(
     ensures { λ _. ⌜ QueryLeft (now (answer .entry)) (now (answer .exit)) (now (pool .exit)) (now (rows .exit)) (query (all-attributes-of (now (element .entry))) (record { at = at; names = names }) (now (document .entry)) (now (pool .entry)) (now (rows .entry))) ⌝ }
 {
     let place = Place { at, names };
-    abx_words::queries::tell(
+    slice_words::queries::tell(
         answer,
         slice::queries::all_attributes_of(place, document, pool, rows, element),
     )
