@@ -110,7 +110,7 @@ pub extern "C" fn abx_stream_next(
     ensures { λ _. ⌜ StreamLeft (now (state .entry)) (now (state .exit)) (now (answer .entry)) (now (answer .exit)) (now (window .entry)) (now (pool .exit)) (now (store .exit)) (now (rows .exit)) (Chunks.next (streamIn (now (state .entry))) (lend (now (window .entry)) (now (pool .entry)) (now (store .entry))) (now (rows .entry))) ⌝ }
 {
     let before = stream_words::stream_in(state);
-    let next = stream::next(before, window, pool, store, rows);
+    let next = stream_next::next(before, window, pool, store, rows);
     stream_words::tell_answer(state, answer, next)
 }
 

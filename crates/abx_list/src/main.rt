@@ -281,7 +281,7 @@ fn turn(
     let at = l.at;
     let events = l.events;
     let reader = l.reader;
-    match stream::next(reader, window, table, store, rows) {
+    match stream_next::next(reader, window, table, store, rows) {
         Answer::Event {
             rows: count,
             stream,

@@ -1,5 +1,3 @@
-mod Faults
-mod Window
+pub mod Faults
+pub mod Window
 mod Closing
-mod Magic
-mod Onward

@@ -195,7 +195,7 @@ fn take_turn(
     ensures { λ r. ⌜ (r .at ≤ length (now (document .entry))) × (r .events ≤ turn + 1) ⌝ }
 {
     let before = sofar.stream;
-    let next = stream::next(before, window, pool, store, rows);
+    let next = stream_next::next(before, window, pool, store, rows);
     match next {
         Answer::Event {
             rows: count,

@@ -1,6 +1,6 @@
 use borrow.Author.Needs.{needs}
-use Rattle.stream.proofs.at_end.Statement.{statement}
-use Rattle.stream.proofs.at_end.Tie as tie
+use Rattle.stream_next.proofs.at_end.Statement.{statement}
+use Rattle.stream_next.proofs.at_end.Tie as tie
 
 returns : tie.Need-returns
 returns c = rw (c .before .if1 .taken)

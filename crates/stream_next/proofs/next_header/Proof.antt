@@ -1,10 +1,10 @@
 use mathlib.Core.Path.{sym, ap, _∙_}
 use Rattle.wire.specs.Header.{headerOf}
 use Rattle.stream.specs.Answers.{streamOf, lend}
-use Rattle.stream.proofs.Magic.{header-short, header-waits, header-there, header-other}
+use Rattle.stream_next.proofs.Magic.{header-short, header-waits, header-there, header-other}
 use borrow.Author.Needs.{needs}
-use Rattle.stream.proofs.next_header.Statement.{statement}
-use Rattle.stream.proofs.next_header.Tie as tie
+use Rattle.stream_next.proofs.next_header.Statement.{statement}
+use Rattle.stream_next.proofs.next_header.Tie as tie
 
 sub-if1 : tie.Need-sub-if1
 sub-if1 c = search needs

@@ -1,11 +1,11 @@
 use mathlib.Core.Path.{_∙_}
 use Rattle.stream_spec.specs.Stream.{next}
 use Rattle.stream.specs.Answers.{streamOf, lend}
 use Rattle.stream.proofs.Faults.{said, faulty, fits}
-use Rattle.stream.proofs.Magic.{passed-before, not-passed}
+use Rattle.stream_next.proofs.Magic.{passed-before, not-passed}
 use borrow.Author.Needs.{needs}
-use Rattle.stream.proofs.next.Statement.{statement}
-use Rattle.stream.proofs.next.Tie as tie
+use Rattle.stream_next.proofs.next.Statement.{statement}
+use Rattle.stream_next.proofs.next.Tie as tie
 
 check-requires : tie.Need-check-requires
 check-requires c κs = search needs

@@ -1,10 +1,10 @@
 use mathlib.Core.Path.{sym, ap, _∙_}
 use Rattle.stream_spec.specs.Stream.{Stream, unchanged, end}
 use Rattle.stream.specs.Answers.{streamOf, lend}
-use Rattle.stream.proofs.Onward.{whole-there, full, room, ends, goes, sums}
+use Rattle.stream_next.proofs.Onward.{whole-there, full, room, ends, goes, sums}
 use borrow.Author.Needs.{needs}
-use Rattle.stream.proofs.next_from.Statement.{statement}
-use Rattle.stream.proofs.next_from.Tie as tie
+use Rattle.stream_next.proofs.next_from.Statement.{statement}
+use Rattle.stream_next.proofs.next_from.Tie as tie
 
 at-end-requires : tie.Need-at-end-requires
 at-end-requires c κs = search needs

@@ -1,0 +1,2 @@
+mod Magic
+mod Onward
