@@ -22,7 +22,7 @@ pub extern "C" fn abx_find_attribute(
     let place = Place { at, names };
     slice_words::queries::tell(
         answer,
-        slice::queries::find_attribute(place, document, pool, rows, element, name),
+        slice_queries::find_attribute(place, document, pool, rows, element, name),
     )
 }
 
@@ -42,7 +42,7 @@ pub extern "C" fn abx_attributes_of(
     let place = Place { at, names };
     slice_words::queries::tell(
         answer,
-        slice::queries::attributes_of(place, document, pool, rows, element),
+        slice_queries::attributes_of(place, document, pool, rows, element),
     )
 }
 
@@ -63,7 +63,7 @@ pub extern "C" fn abx_find_all_attributes(
     let place = Place { at, names };
     slice_words::queries::tell(
         answer,
-        slice::queries::find_all_attributes(place, document, pool, rows, element, name),
+        slice_queries::find_all_attributes(place, document, pool, rows, element, name),
     )
 }
 
@@ -83,6 +83,6 @@ pub extern "C" fn abx_all_attributes_of(
     let place = Place { at, names };
     slice_words::queries::tell(
         answer,
-        slice::queries::all_attributes_of(place, document, pool, rows, element),
+        slice_queries::all_attributes_of(place, document, pool, rows, element),
     )
 }

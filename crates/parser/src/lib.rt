@@ -2,7 +2,6 @@
 use slice::Created;
 use slice::Next;
 use slice::Place;
-use slice::queries;
 use slice::queries::Queried;
 use wire::Refusal;
 ghost use mathlib.Core.Path.{_≡_};
@@ -192,7 +191,7 @@ fn find_attribute(
     if number != 0 {
         return unasked(at, names, number, detail);
     }
-    apart(queries::find_attribute(Place { at, names }, document, pool, rows, element, name))
+    apart(slice_queries::find_attribute(Place { at, names }, document, pool, rows, element, name))
 }
 
 fn attributes_of(
@@ -211,7 +210,7 @@ fn attributes_of(
     if number != 0 {
         return unasked(at, names, number, detail);
     }
-    apart(queries::attributes_of(Place { at, names }, document, pool, rows, element))
+    apart(slice_queries::attributes_of(Place { at, names }, document, pool, rows, element))
 }
 
 fn find_all_attributes(
@@ -231,7 +230,14 @@ fn find_all_attributes(
     if number != 0 {
         return unasked(at, names, number, detail);
     }
-    apart(queries::find_all_attributes(Place { at, names }, document, pool, rows, element, name))
+    apart(slice_queries::find_all_attributes(
+        Place { at, names },
+        document,
+        pool,
+        rows,
+        element,
+        name,
+    ))
 }
 
 fn all_attributes_of(
@@ -250,7 +256,7 @@ fn all_attributes_of(
     if number != 0 {
         return unasked(at, names, number, detail);
     }
-    apart(queries::all_attributes_of(Place { at, names }, document, pool, rows, element))
+    apart(slice_queries::all_attributes_of(Place { at, names }, document, pool, rows, element))
 }
 
 // ---- the parser

@@ -15,7 +15,7 @@ use Rattle.grammar.specs.Scan.{sound, adds, count, Outcome, complete, incomplet
 use Rattle.grammar.specs.Choice.{byTest}
 use Rattle.scanner.specs.Step as Scanned
 use Rattle.scanner.specs.Step.{step, tooLong, outside, SteppedQuickly}
-use Rattle.scanner.specs.declared.quick.Taken.{Taken}
+use Rattle.quick.specs.declared.Taken.{Taken}
 use Rattle.slice_spec.specs.Slice.{Place, Left, Answer, gives, end, unchanged, sizesBad, placeBad, itemsAt, given, handOut, byOutcome, nextFrom, next, placeAfter, tableAfter}
 use Rattle.slice_spec.specs.Bounds.{Fits}
 

@@ -1,0 +1,56 @@
+use borrow.Author.Needs.{needs}
+use Rattle.slice_queries.proofs.attributes_of.Statement.{statement}
+use Rattle.slice_queries.proofs.attributes_of.Tie as tie
+
+slice-aggregate-ask : tie.Need-slice-aggregate-ask
+slice-aggregate-ask c = search needs
+
+ask-requires : tie.Need-ask-requires
+ask-requires c κs = search needs
+
+enum-known-queried : tie.Need-enum-known-queried
+enum-known-queried c = search needs
+
+enum-known-reached : tie.Need-enum-known-reached
+enum-known-reached c = search needs
+
+slice-aggregate-ask-on : tie.Need-slice-aggregate-ask-on
+slice-aggregate-ask-on c = search needs
+
+ask-on-requires : tie.Need-ask-on-requires
+ask-on-requires c κs = c .before .before .before .before .before .before .before .before .before .before .ask .ensures .unsure _ (c .before .before .before .before .reached .given .1) .counted
+
+same-length : tie.Need-same-length
+same-length c = search needs
+
+same-length-2 : tie.Need-same-length-2
+same-length-2 c = search needs
+
+returns : tie.Need-returns
+returns c = c .before .before .before .before .before .before .before .ask .ensures .ended _ (c .before .queried .given .1)
+
+same-length-3 : tie.Need-same-length-3
+same-length-3 c = search needs
+
+same-length-4 : tie.Need-same-length-4
+same-length-4 c = search needs
+
+returns-2 : tie.Need-returns-2
+returns-2 c = c .before .before .before .before .ask-on .ensures _ (c .before .before .before .before .before .before .before .before .before .before .before .before .before .before .before .ask .ensures .unsure _ (c .before .before .before .before .before .before .before .before .before .reached .given .1))
+
+pub attributes-of-spec : {M : Type 1} → statement M
+attributes-of-spec =
+    tie.close
+    (tie.spec
+    slice-aggregate-ask
+    ask-requires
+    enum-known-queried
+    enum-known-reached
+    slice-aggregate-ask-on
+    ask-on-requires
+    same-length
+    same-length-2
+    returns
+    same-length-3
+    same-length-4
+    returns-2)
