@@ -2,7 +2,6 @@ mod Spans
 mod Searches
 mod Links
 mod Values
-mod Indexing
 mod Keeps
 mod Pools
 mod Noting

@@ -3,7 +3,7 @@ use mathlib.Core.Bool.{true, false, false≢true}
 use mathlib.Core.List.{List, [], _∷_, _++_}
 use mathlib.Core.Path.{_≡_, sym, ap, _∙_}
 use Prim.Native.Nat.{ℕ, _+_, _*_, _-_, _/_, _%_, _≤_, _<_}
-use native.Mathlib.Nat.{mod-lt, div-lt-iff-lt-mul, mul-lt-mul-of-pos-right, mul-comm, add-zero}
+use native.Mathlib.Nat.{add-zero}
 use native.Mathlib.Omega.{arith}
 use borrow.Author.Tests.{eqb-true, eqb-false, ltb-true, ltb-false}
 use lib.Dec.{ltb, eqb}
@@ -12,26 +12,9 @@ use lib.Seq.{getD-append-add, getD-set-same, getD-set-other}
 use Rattle.event.specs.Span.{span, same}
 use Rattle.event.specs.Laws.{same-refl}
 use Rattle.grammar.specs.Choice.{byTest}
-use Rattle.writer.specs.Notes.{slotBy, slotOf, noteName, noteLink, count, Chain, Linked, LookSays, Recalled}
+use Rattle.pool_index.specs.Slots.{slotOf}
+use Rattle.writer.specs.Notes.{noteName, noteLink, count, Chain, Linked, LookSays, Recalled}
 use Rattle.writer.specs.declared.Look.the-variants as Look
-
--- ---- slots
-
-scaled : (x slots : ℕ) → 0 < slots → x % 4294967296 * slots / 4294967296 < slots
-scaled x slots h =
-    div-lt-iff-lt-mul {k = 4294967296} (omega arith)
-    .1 (rw (mul-comm slots 4294967296) (mul-lt-mul-of-pos-right {m = x % 4294967296} {n = 4294967296} (mod-lt x (omega arith)) h))
-
-pub product-fits : (x slots : ℕ) → 0 < slots → slots < 65536 → x % 4294967296 * slots < 18446744073709551616
-product-fits x slots h k = omega (arith, mul-lt-mul-of-pos-right {m = x % 4294967296} {n = 4294967296} (mod-lt x (omega arith)) h)
-
-pub slot-by-below : (slots x : ℕ) → 0 < slots → slotBy slots x < slots
-unfolding slotBy
-slot-by-below slots x h = scaled (x % 4294967296 * 2654435761) slots h
-
-pub slot-below : (slots : ℕ) (n : List ℕ) → 0 < slots → slotOf slots n < slots
-unfolding slotOf
-slot-below slots n h = slot-by-below slots _ h
 
 -- ---- a look
 

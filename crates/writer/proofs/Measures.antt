@@ -21,7 +21,8 @@ use Rattle.writer_spec.specs.Faults.{stringFault, valueFault}
 use Rattle.writer_spec.specs.Writer.{Refusal, _before_, refuseIf, rowRefusal}
 use Rattle.byte_copy.specs.Sets.{take-sets}
 use Rattle.writer.specs.Answers.{takes, stops, measured, placed, barred, placedBy}
-use Rattle.writer.specs.Notes.{slotOf, noteName, noteIndex, count, Unnoted, LookSays}
+use Rattle.pool_index.specs.Slots.{slotOf}
+use Rattle.writer.specs.Notes.{noteName, noteIndex, count, Unnoted, LookSays}
 use Rattle.writer.specs.declared.Look.the-variants as Look
 use Rattle.writer.specs.declared.NameSize.{NameSize}
 use Rattle.writer.specs.declared.NameSize.the-variants as NameSize

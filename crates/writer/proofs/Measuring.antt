@@ -18,7 +18,8 @@ use Rattle.writer_spec.specs.Writer.{Lent, rowRefusal, roomRefusal, ends, rowsR
 use Rattle.writer_spec.specs.Wrote.{keepRows-append}
 use Rattle.writer_spec.specs.Held.{rows-bounded}
 use Rattle.writer.specs.Answers.{lentOf}
-use Rattle.writer.specs.Notes.{Fresh, Unnoted}
+use Rattle.pool_index.specs.Slots.{Fresh}
+use Rattle.writer.specs.Notes.{Unnoted}
 use Rattle.writer.specs.Passes.{roomOf, endsAt, Settled, AllSettled, bad, found, Known, Kept, RowTakes, MeasureSays}
 use Rattle.writer.specs.declared.Measured.the-variants as Measured
 use Rattle.writer.specs.declared.Tally.{Tally}

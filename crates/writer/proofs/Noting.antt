@@ -14,7 +14,8 @@ use Rattle.grammar.specs.Document.{Pool}
 use Rattle.grammar.specs.Choice.{byTest}
 use Rattle.writer_spec.specs.Encode.{find}
 use Rattle.writer_spec.specs.Faults.{stringFault}
-use Rattle.writer.specs.Notes.{slotOf, noteName, noteIndex, count, Unnoted, LookSays, Noted, Fresh}
+use Rattle.pool_index.specs.Slots.{slotOf, Fresh}
+use Rattle.writer.specs.Notes.{noteName, noteIndex, count, Unnoted, LookSays, Noted}
 use Rattle.writer.specs.Passes.{Settled}
 use Rattle.writer.specs.declared.Look.the-variants as Look
 use Rattle.writer.proofs.Pools.{find-there, find-new, find-other, find-below, find-one, find-front, find-later, find-never, pigeons}

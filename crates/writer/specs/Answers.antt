@@ -14,8 +14,6 @@ use Rattle.writer.specs.declared.Fault.{Fault}
 use Rattle.writer.specs.declared.Fault.the-variants as Fault
 use Rattle.writer.specs.declared.Size.{Size}
 use Rattle.writer.specs.declared.Size.the-variants as Size
-use Rattle.writer.specs.declared.Found.{Found}
-use Rattle.writer.specs.declared.Found.the-variants as Found
 use Rattle.writer.specs.declared.NameFound.{NameFound}
 use Rattle.writer.specs.declared.NameFound.the-variants as NameFound
 use Rattle.writer.specs.declared.Known.{Known}
@@ -60,16 +58,7 @@ abbrev pub sizeOf : Size → Measure
 sizeOf (Size.Takes n) = takes n
 sizeOf (Size.Refused r) = stops (r .number) (r .detail)
 
--- ---- the pool's search
-
--- the place of the first equal entry; nothing at all where the search is refused
-unfoldable pub searched : List ℕ → ℕ → List ℕ → List ℕ → Option (Option ℕ)
-searched output n pairs name = cond (meetsBad output n pairs name) none (some (find (poolAt output n pairs) name))
-
-abbrev pub foundOf : Found → Option (Option ℕ)
-foundOf (Found.At i) = some (some i)
-foundOf Found.Nowhere = some none
-foundOf Found.Bad = none
+-- ---- a name's search
 
 -- a place in the pool or none, or a refusal
 pub data Place : Type 0 where

@@ -6,20 +6,12 @@ use mathlib.Core.Path.{_≡_}
 use Prim.Native.Nat.{ℕ, _+_, _*_, _-_, _/_, _%_, _≤_, _<_}
 use lib.ListN.{length, getD}
 use Rattle.event.specs.Span.{span}
-use Rattle.names.specs.Hash.{hashOf}
+use Rattle.pool_index.specs.Slots.{slotOf}
 use Rattle.grammar.specs.Document.{Pool}
 use Rattle.writer_spec.specs.Encode.{find}
 use Rattle.writer_spec.specs.Faults.{stringFault}
 use Rattle.writer.specs.declared.Look.{Look}
 use Rattle.writer.specs.declared.Look.the-variants as Look
-
--- a number's slot, among so many
-unfoldable pub slotBy : ℕ → ℕ → ℕ
-slotBy slots mixed = mixed % 4294967296 * 2654435761 % 4294967296 * slots / 4294967296
-
--- a name's slot: equal names have the same, and nothing else matters
-unfoldable pub slotOf : ℕ → List ℕ → ℕ
-slotOf slots n = slotBy slots (hashOf n)
 
 -- ---- a note's words: the name's span, its index in the pool, and the number of the note before it in its slot
 
@@ -71,7 +63,3 @@ Recalled w notes (Look.At i) =
     (k : ℕ) × (k < length notes / 5) × (getD notes (5 * k) 0 ≡ getD w 1 0) × (getD notes (5 * k + 1) 0 ≡ getD w 2 0)
     × (getD notes (5 * k + 2) 0 ≡ getD w 3 0) × (getD notes (5 * k + 3) 0 ≡ i)
 Recalled w notes Look.Nowhere = Unit {0}
-
--- no note yet
-abbrev pub Fresh : List ℕ → Type 0
-Fresh heads = (slot : ℕ) → getD heads slot 0 ≡ 0

@@ -1,6 +1,7 @@
 // The writer: a header, one event's rows, a list of events. A call first measures all that it is to write, so that a refused
 // one changes nothing, and then writes it.
 use event::Shape;
+use pool_index::Found;
 use wire::Command;
 use wire::Refusal;
 use wire::Type;
@@ -19,11 +20,11 @@ ghost use Rattle.event.specs.Row.{shape, rowAt};
 ghost use Rattle.event.specs.Words.{rowsForm, listForms};
 ghost use Rattle.writer_spec.specs.Encode.{sized, valueBytes, find};
 ghost use Rattle.writer_spec.specs.Faults.{stringFault, blobFault, valueFault};
-ghost use Rattle.writer_spec.specs.Search.{endOf};
 ghost use Rattle.writer_spec.specs.Writer.{sizesBad, stateBad, poolAt, meetsBad, rowsIn, create, append, write, writeEvent, writeEvents};
-ghost use Rattle.writer.specs.Answers.{lentOf, stateOf, leftOf, formsBy, faultOf, foundOf, searched, sizeOf, measured, placedBy, nameFoundOf, knownOf};
-ghost use Rattle.writer.specs.Notes.{slotBy, slotOf, noteName, Linked, Unnoted, LookSays, Recalled, Fresh};
-ghost use Rattle.writer.specs.Index.{pairName, Inside, Indexed, MaybeIndexed};
+ghost use Rattle.writer.specs.Answers.{lentOf, stateOf, leftOf, formsBy, faultOf, sizeOf, measured, placedBy, nameFoundOf, knownOf};
+ghost use Rattle.pool_index.specs.Slots.{slotOf, Fresh};
+ghost use Rattle.pool_index.specs.Index.{MaybeIndexed};
+ghost use Rattle.writer.specs.Notes.{noteName, Linked, Unnoted, LookSays, Recalled};
 ghost use Rattle.writer.specs.Passes.{most-notes, nameRefusal, roomOf, capped, endsAt, Slots, callFault, Kept, NameMeasured, RowNameMeasured, RowMeasured, MeasureSays, Tried, Ready, KnownSays, namedBy, rowBy, tokenIn, joinsBy, pairsBy};
 
 // ---- what a call lends
@@ -193,67 +194,11 @@ fn value_size<'a>(first: &'a [u8], second: &'a [u8], w: &[u32]) -> Size
     }
 }
 
-// ---- the pool's search
-
-pub enum Found {
-    At(usize),
-    Nowhere,
-    Bad,
-}
-
-// Whether so many bytes from a place on are the name. Most pairs of a pool have another length.
-fn spans_name(output: &[u8], start: usize, len: usize, name: &[u8]) -> bool
-    requires { ⌜ start + len ≤ length (now output) ⌝ }
-    ensures { λ r. ⌜ r ≡ same (take len (drop start (now (output .entry)))) (now (name .entry)) ⌝ }
-{
-    if len != name.len() {
-        return false;
-    }
-    names::same_name(&output[start..start + len], name)
-}
-
-// The first pair that spans the name, among so many; Bad where a pair that ends outside the output comes before it.
-fn search_pool(output: &[u8], pool: &[u32], names: usize, name: &[u8]) -> Found
-    requires { ⌜ 2 * names ≤ length (now pool) ⌝ }
-    ensures { λ r. ⌜ foundOf r ≡ searched (now (output .entry)) names (now (pool .entry)) (now (name .entry)) ⌝ }
-{
-    let mut i = 0;
-    while i < names {
-        let start = pool[2 * i] as usize;
-        let len = pool[2 * i + 1] as usize;
-        if output.len() < start + len {
-            return Found::Bad;
-        }
-        if spans_name(output, start, len, name) {
-            return Found::At(i);
-        }
-        i += 1;
-    }
-    Found::Nowhere
-}
-
 // ---- notes
 //
 // Of each name that a call has met and that is in the pool, it keeps a note of five words: the name's span (source, start,
 // length), its index in the pool, and the number of the note before it with the same slot, or 0. Notes are counted from 1;
 // `heads` has each slot's last.
-
-// A number's slot, among so many.
-fn slot_by(mixed: u64, slots: usize) -> usize
-    requires { ⌜ (0 < slots) × (slots < 65536) ⌝ }
-    ensures { λ r. ⌜ r ≡ slotBy slots mixed ⌝ }
-{
-    let spread = mixed % 4_294_967_296 * 2_654_435_761 % 4_294_967_296;
-    (spread * (slots as u64) / 4_294_967_296) as usize
-}
-
-// A name's slot.
-fn slot_of(name: &[u8], slots: usize) -> usize
-    requires { ⌜ (0 < slots) × (slots < 65536) ⌝ }
-    ensures { λ r. ⌜ r ≡ slotOf slots (now (name .entry)) ⌝ }
-{
-    slot_by(names::hash(name), slots)
-}
 
 // Whether a note is of the name that a row has. A name read by its index has the same span again.
 fn is_noted<'a>(
@@ -338,7 +283,7 @@ fn recall(w: &[u32], notes: &[u32], seen: &[u16]) -> Look
     ensures { λ r. ⌜ Recalled (now (w .entry)) (now (notes .entry)) r ⌝ }
 {
     let start = w[2];
-    let k = seen[slot_by(start as u64, seen.len())] as usize;
+    let k = seen[pool_index::slot_by(start as u64, seen.len() as u16)] as usize;
     if notes.len() < 5 * k + 5 {
         return Look::Nowhere;
     }
@@ -356,115 +301,10 @@ fn recall(w: &[u32], notes: &[u32], seen: &[u16]) -> Look
 fn remember(start: u32, k: u16, seen: &mut [u16])
     requires { ⌜ Slots (length (now seen)) ⌝ }
 {
-    let place = slot_by(start as u64, seen.len());
+    let place = pool_index::slot_by(start as u64, seen.len() as u16);
     if seen[place] == 0 {
         seen[place] = k;
     }
-}
-
-// ---- the pool's index
-//
-// A list searches a pool of many names by an index: by slots, the pairs before the first that ends outside the output. A pair is named
-// by how far it is from 65,535, so that 0 names none. The index has each slot's first pair (16,384 words), the number of
-// those pairs, and of each pair the next of its slot.
-
-// How many pairs there are before the first that ends outside.
-fn inside(output: &[u8], pool: &[u32], names: usize) -> usize
-    requires { ⌜ 2 * names ≤ length (now pool) ⌝ }
-    ensures { λ r. ⌜ Inside (now (output .entry)) (now (pool .entry)) names r ⌝ }
-{
-    let mut i = 0;
-    while i < names {
-        let start = pool[2 * i] as usize;
-        let len = pool[2 * i + 1] as usize;
-        if output.len() < start + len {
-            return i;
-        }
-        i += 1;
-    }
-    names
-}
-
-// The slot of a pair's name.
-fn pair_slot(output: &[u8], pool: &[u32], i: usize) -> usize
-    requires { ⌜ 2 * i + 2 ≤ length (now pool) ⌝ }
-    requires { ⌜ endOf (now pool) i ≤ length (now output) ⌝ }
-    ensures { λ r. ⌜ r ≡ slotOf 16384 (pairName (now (output .entry)) (now (pool .entry)) i) ⌝ }
-{
-    let start = pool[2 * i] as usize;
-    let len = pool[2 * i + 1] as usize;
-    slot_of(&output[start..start + len], 16_384)
-}
-
-// A pair goes before the others of its slot.
-fn index_pair(index: &mut [u16], slot: usize, i: usize)
-    requires { ⌜ length (now index) ≡ 81920 ⌝ }
-    requires { ⌜ (slot < 16384) × (i < 65535) ⌝ }
-    ensures { λ _. ⌜ now (index .exit) ≡ set (set (now (index .entry)) (16385 + i) (getD (now (index .entry)) slot 0)) slot (65535 - i) ⌝ }
-{
-    index[16_385 + i] = index[slot];
-    index[slot] = (65_535 - i) as u16;
-}
-
-// All pairs that there are, the last first.
-fn index_pool(output: &[u8], pool: &[u32], names: usize, index: &mut [u16])
-    requires { ⌜ (2 * names ≤ length (now pool)) × (names ≤ 65535) ⌝ }
-    requires { ⌜ (length (now index) ≡ 81920) × Fresh (now index) ⌝ }
-    ensures { λ _. ⌜ Indexed (now (output .entry)) (now (pool .entry)) names (now (index .exit)) ⌝ }
-{
-    let bound = inside(output, pool, names);
-    let mut i = bound;
-    while 0 < i {
-        i -= 1;
-        let slot = pair_slot(output, pool, i);
-        index_pair(index, slot, i);
-    }
-    index[16_384] = bound as u16;
-}
-
-// What `search_pool` finds, by the index.
-fn search_index(output: &[u8], pool: &[u32], names: usize, name: &[u8], index: &[u16]) -> Found
-    requires { ⌜ 2 * names ≤ length (now pool) ⌝ }
-    requires { ⌜ Indexed (now output) (now pool) names (now index) ⌝ }
-    ensures { λ r. ⌜ foundOf r ≡ searched (now (output .entry)) names (now (pool .entry)) (now (name .entry)) ⌝ }
-{
-    let mut next = index[slot_of(name, 16_384)] as usize;
-    while next != 0 {
-        let i = 65_535 - next;
-        let start = pool[2 * i] as usize;
-        let len = pool[2 * i + 1] as usize;
-        if spans_name(output, start, len, name) {
-            return Found::At(i);
-        }
-        next = index[16_385 + i] as usize;
-    }
-    if (index[16_384] as usize) < names {
-        return Found::Bad;
-    }
-    Found::Nowhere
-}
-
-// The index of a call that has room for one.
-fn prepare(output: &[u8], pool: &[u32], names: usize, index: &mut [u16])
-    requires { ⌜ (2 * names ≤ length (now pool)) × (names ≤ 65535) ⌝ }
-    requires { ⌜ Fresh (now index) ⌝ }
-    ensures { λ _. ⌜ MaybeIndexed (now (output .entry)) (now (pool .entry)) names (now (index .exit)) ⌝ }
-{
-    if index.len() == 81_920 {
-        index_pool(output, pool, names, index);
-    }
-}
-
-// What a search of the pool finds, by the index where there is one.
-fn search(output: &[u8], pool: &[u32], names: usize, name: &[u8], index: &[u16]) -> Found
-    requires { ⌜ MaybeIndexed (now output) (now pool) names (now index) ⌝ }
-    requires { ⌜ 2 * names ≤ length (now pool) ⌝ }
-    ensures { λ r. ⌜ foundOf r ≡ searched (now (output .entry)) names (now (pool .entry)) (now (name .entry)) ⌝ }
-{
-    if index.len() == 81_920 {
-        return search_index(output, pool, names, name, index);
-    }
-    search_pool(output, pool, names, name)
 }
 
 // ---- measuring
@@ -484,7 +324,7 @@ fn find_name(output: &[u8], pool: &[u32], kept: usize, name: &[u8], index: &[u16
 {
     match string_fault(name) {
         Fault::Refused(r) => NameFound::Refused(r),
-        Fault::Nothing => match search(output, pool, kept, name, index) {
+        Fault::Nothing => match pool_index::search(output, pool, kept, name, index) {
             Found::At(i) => NameFound::At(i),
             Found::Nowhere => NameFound::Nowhere,
             Found::Bad => NameFound::Refused(Refusal::new(Refusal::BAD_STATE)),
@@ -584,7 +424,7 @@ fn name_size<'a>(
 {
     if event::has_name(w[0]) {
         let name = name_in(first, second, w);
-        let slot = slot_of(name, heads.len());
+        let slot = pool_index::slot_of(name, heads.len() as u16);
         return match look_up(first, second, w, name, &notes[..used], heads, slot) {
             Look::At(_) => NameSize::Takes {
                 size: 2,
@@ -863,7 +703,7 @@ fn known_name<'a>(
 {
     if event::has_name(w[0]) {
         let name = name_in(first, second, w);
-        let slot = slot_of(name, heads.len());
+        let slot = pool_index::slot_of(name, heads.len() as u16);
         if let Look::At(i) = look_up(first, second, w, name, notes, heads, slot) {
             if (i as usize) < names {
                 return Known::At(i);
@@ -1199,7 +1039,7 @@ fn write_checked<'a>(
     match call_fault(single, writer, first, second, rows, output, pool) {
         Fault::Refused(r) => Outcome::Left(Written::Refused(r)),
         Fault::Nothing => {
-            prepare(output, pool, writer.names, index);
+            pool_index::prepare(output, pool, writer.names, index);
             write_noted(
                 writer,
                 first,

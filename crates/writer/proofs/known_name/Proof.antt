@@ -1,8 +1,9 @@
+use native.Mathlib.Omega.{arith}
 use mathlib.Core.Path.{sym, _∙_}
 use lib.ListN.{length}
 use Rattle.writer.specs.Notes.{LookSays}
 use Rattle.writer.specs.declared.Look.the-variants as Look
-use Rattle.writer.proofs.Links.{slot-below}
+use Rattle.pool_index.specs.Laws.{slot-below}
 use Rattle.writer.proofs.Noting.{name, told-bare, told-at, told-late, told-new}
 use borrow.Author.Needs.{needs}
 use Rattle.writer.proofs.known_name.Statement.{statement}
@@ -17,12 +18,11 @@ has-name-requires c κs = search needs
 name-in-requires : tie.Need-name-in-requires
 name-in-requires c κs = search needs
 
+cast-slot-of : tie.Need-cast-slot-of
+cast-slot-of c = omega (arith, c .before .before .before .before .before .before .before .before .before .pre .1 .0 .few-slots)
+
 slot-of-requires : tie.Need-slot-of-requires
-slot-of-requires c κs = let a = c .before .before .before .before .before .before .before .before .before .args in
-    let f = a .first .now in
-    let s = a .second .now in
-    let w = a .w .now in
-    (c .before .before .before .before .before .before .before .before .before .pre .1 .0 .some-slots, c .before .before .before .before .before .before .before .before .before .pre .1 .0 .few-slots)
+slot-of-requires c κs = search needs
 
 look-up-requires : tie.Need-look-up-requires
 look-up-requires c κs = let a = c .before .before .before .before .before .before .before .before .before .before .args in
@@ -77,6 +77,7 @@ known-name-spec =
     shared-slice-read-has-name
     has-name-requires
     name-in-requires
+    cast-slot-of
     slot-of-requires
     look-up-requires
     enum-known-i

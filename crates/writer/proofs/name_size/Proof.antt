@@ -1,8 +1,9 @@
+use native.Mathlib.Omega.{arith}
 use mathlib.Core.Path.{sym, _∙_}
 use lib.ListN.{length}
 use lib.Seq.{length-take-le}
 use Rattle.event.specs.Row.{rowAt}
-use Rattle.writer.proofs.Links.{slot-below}
+use Rattle.pool_index.specs.Laws.{slot-below}
 use Rattle.writer.proofs.Keeps.{name-is}
 use Rattle.writer.proofs.Measures.{says-row, says-noted, says-bare}
 use borrow.Author.Needs.{needs}
@@ -18,14 +19,11 @@ has-name-requires c κs = search needs
 name-in-requires : tie.Need-name-in-requires
 name-in-requires c κs = search needs
 
+cast-slot-of : tie.Need-cast-slot-of
+cast-slot-of c = omega (arith, c .before .before .before .before .before .before .before .before .before .before .before .before .pre .1 .1 .1 .1 .0 .few-slots)
+
 slot-of-requires : tie.Need-slot-of-requires
-slot-of-requires c κs = let a = c .before .before .before .before .before .before .before .before .before .before .before .before .args in
-    let p = c .before .before .before .before .before .before .before .before .before .before .before .before .pre .1 in
-    let k = p .1 .1 .1 .1 in
-    let f = a .first .now in
-    let s = a .second .now in
-    let w = a .w .now in
-    (p .1 .1 .1 .0 .some-slots, p .1 .1 .1 .0 .few-slots)
+slot-of-requires c κs = search needs
 
 slice-reshare-prefix-look-up : tie.Need-slice-reshare-prefix-look-up
 slice-reshare-prefix-look-up c = search needs
@@ -108,6 +106,7 @@ name-size-spec =
     shared-slice-read-has-name
     has-name-requires
     name-in-requires
+    cast-slot-of
     slot-of-requires
     slice-reshare-prefix-look-up
     slice-aggregate-look-up

@@ -5,13 +5,16 @@ use Prim.Native.Nat.{_<_}
 use lib.ListN.{length, getD}
 use native.Mathlib.Omega.{arith}
 use mathlib.Core.Path.{refl}
-use Rattle.writer.proofs.Links.{slot-by-below}
+use Rattle.pool_index.specs.Laws.{slot-by-below}
 
 shared-slice-read-start : tie.Need-shared-slice-read-start
 shared-slice-read-start c = search needs
 
 cast-slot-by : tie.Need-cast-slot-by
 cast-slot-by c = omega (arith, c .before .before .before .shared-slice-known .given 2)
+
+cast-slot-by-2 : tie.Need-cast-slot-by-2
+cast-slot-by-2 c = omega (arith, c .before .before .before .before .pre .1 .few-slots)
 
 slot-by-requires : tie.Need-slot-by-requires
 slot-by-requires c κs = search needs
@@ -75,17 +78,17 @@ shared-slice-read-if4 c = search needs
 shared-slice-read-if4-2 : tie.Need-shared-slice-read-if4-2
 shared-slice-read-if4-2 c = search needs
 
-mul-t31 : tie.Need-mul-t31
-mul-t31 c = search needs
+mul-t32 : tie.Need-mul-t32
+mul-t32 c = search needs
 
-add-t32 : tie.Need-add-t32
-add-t32 c = search needs
+add-t33 : tie.Need-add-t33
+add-t33 c = search needs
 
-mul-t33 : tie.Need-mul-t33
-mul-t33 c = search needs
+mul-t34 : tie.Need-mul-t34
+mul-t34 c = search needs
 
-shared-slice-read-t35 : tie.Need-shared-slice-read-t35
-shared-slice-read-t35 c = search needs
+shared-slice-read-t36 : tie.Need-shared-slice-read-t36
+shared-slice-read-t36 c = search needs
 
 returns-2 : tie.Need-returns-2
 returns-2 c =
@@ -106,6 +109,7 @@ recall-spec =
     (tie.spec
     shared-slice-read-start
     cast-slot-by
+    cast-slot-by-2
     slot-by-requires
     mul-k
     shared-slice-read-k
@@ -126,10 +130,10 @@ recall-spec =
     mul-if4-2
     shared-slice-read-if4
     shared-slice-read-if4-2
-    mul-t31
-    add-t32
-    mul-t33
-    shared-slice-read-t35
+    mul-t32
+    add-t33
+    mul-t34
+    shared-slice-read-t36
     returns-2
     returns-3
     returns-4

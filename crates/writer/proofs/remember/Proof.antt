@@ -1,10 +1,13 @@
 use lib.ListN.{length}
 use Prim.Native.Nat.{_<_}
 use native.Mathlib.Omega.{arith}
-use Rattle.writer.proofs.Links.{slot-by-below}
+use Rattle.pool_index.specs.Laws.{slot-by-below}
 use borrow.Author.Needs.{needs}
 use Rattle.writer.proofs.remember.Statement.{statement}
 use Rattle.writer.proofs.remember.Tie as tie
+
+cast-slot-by : tie.Need-cast-slot-by
+cast-slot-by c = omega (arith, c .before .pre .few-slots)
 
 slot-by-requires : tie.Need-slot-by-requires
 slot-by-requires c κs = search needs
@@ -38,6 +41,7 @@ pub remember-spec : {M : Type 1} → statement M
 remember-spec =
     tie.close
     (tie.spec
+    cast-slot-by
     slot-by-requires
     mul-if1
     slice-read-if1

@@ -17,14 +17,7 @@ enum-told : tie.Need-enum-told
 enum-told c = search needs
 
 prepare-requires : tie.Need-prepare-requires
-prepare-requires c κs = let a = c .before .before .before .before .before .before .before .before .before .before .before .before .before .before .before .before .before .args in
-    let f = formsBy (a .single) (a .first .now) (a .second .now) (a .rows .now) in
-    let w = stateOf (a .writer) in
-    let l = lentOf (a .output .now) (a .pool .now) in
-    let passed = fault-passed f w l (sym (c .before .before .before .before .before .call-fault .ensures) ∙ ap faultOf (c .before .before .before .enum-told .given .1)) in
-    let sizes = sizes-passed (a .output .now) (a .pool .now) (passed .1) in
-    let state = state-passed (a .output .now) (a .pool .now) w (passed .2) in
-    ((state .1, omega (arith, sizes .1, state .1)), c .before .before .before .before .before .before .before .before .before .before .before .before .before .before .before .before .before .pre .0)
+prepare-requires c κs = search needs
 
 write-noted-requires : tie.Need-write-noted-requires
 write-noted-requires c κs = let a = c .before .before .before .before .before .before .before .before .before .before .before .before .before .before .before .before .before .before .before .before .before .before .before .before .before .before .args in
@@ -32,7 +25,9 @@ write-noted-requires c κs = let a = c .before .before .before .before .before .
     let w = stateOf (a .writer) in
     let l = lentOf (a .output .now) (a .pool .now) in
     let passed = fault-passed f w l (sym (c .before .before .before .before .before .before .before .before .before .before .before .before .before .before .call-fault .ensures) ∙ ap faultOf (c .before .before .before .before .before .before .before .before .before .before .before .before .enum-told .given .1)) in
-    (c .before .before .before .before .before .before .before .before .prepare .ensures, (formed-by (a .first .now) (a .second .now) (a .rows .now) (a .single) (passed .0), (passed .1, (passed .2, c .before .before .before .before .before .before .before .before .before .before .before .before .before .before .before .before .before .before .before .before .before .before .before .before .before .before .pre .1))))
+    let sizes = sizes-passed (a .output .now) (a .pool .now) (passed .1) in
+    let state = state-passed (a .output .now) (a .pool .now) w (passed .2) in
+    (c .before .before .before .before .before .before .before .before .prepare .ensures (state .1) (omega (arith, sizes .1, state .1)) (c .before .before .before .before .before .before .before .before .before .before .before .before .before .before .before .before .before .before .before .before .before .before .before .before .before .before .pre .0), (formed-by (a .first .now) (a .second .now) (a .rows .now) (a .single) (passed .0), (passed .1, (passed .2, c .before .before .before .before .before .before .before .before .before .before .before .before .before .before .before .before .before .before .before .before .before .before .before .before .before .before .pre .1))))
 
 same-length : tie.Need-same-length
 same-length c = search needs

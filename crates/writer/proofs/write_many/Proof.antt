@@ -24,10 +24,10 @@ write-checked-requires : tie.Need-write-checked-requires
 write-checked-requires c κs = (fresh 81920, ((slots-of 8192 (omega arith) (omega arith), fresh 8192), slots-of 8192 (omega arith) (omega arith)))
 
 same-length : tie.Need-same-length
-same-length c = search needs
+same-length c = c .before .before .before .before .before .before .before .before .write-checked .kept .1 .1 .1 .1 .1 .0
 
 same-length-2 : tie.Need-same-length-2
-same-length-2 c = search needs
+same-length-2 c = c .before .before .before .before .before .before .before .before .write-checked .kept .1 .1 .1 .1 .1 .1 .0
 
 returns : tie.Need-returns
 returns c = let a = c .before .before .before .before .before .before .before .before .before .before .before .before .before .before .before .before .before .before .before .before .args in

@@ -14,10 +14,10 @@ use Rattle.event.specs.Laws.{same-refl}
 use Rattle.names.specs.Laws.{same-not}
 use Rattle.grammar.specs.Choice.{byTest}
 use Rattle.writer_spec.specs.Search.{endOf}
-use Rattle.writer.specs.Answers.{searched}
-use Rattle.writer.specs.Notes.{slotOf, Fresh}
-use Rattle.writer.specs.Index.{pairName, Inside, slotAt, Up, Chained, Indexed}
-use Rattle.writer.proofs.Searches.{left, left-all, left-end, left-bad, left-found, left-other}
+use Rattle.pool_index.specs.Search.{searched}
+use Rattle.pool_index.specs.Slots.{slotOf, Fresh}
+use Rattle.pool_index.specs.Index.{pairName, Inside, slotAt, Up, Chained, Indexed}
+use Rattle.pool_index.proofs.Searches.{left, left-all, left-end, left-bad, left-found, left-other}
 
 -- ---- building
 

@@ -1,8 +1,8 @@
 use native.Mathlib.Omega.{arith}
 use native.Mathlib.Nat.{add-sub-cancel-left}
 use borrow.Author.Needs.{needs}
-use Rattle.writer.proofs.pair_slot.Statement.{statement}
-use Rattle.writer.proofs.pair_slot.Tie as tie
+use Rattle.pool_index.proofs.pair_slot.Statement.{statement}
+use Rattle.pool_index.proofs.pair_slot.Tie as tie
 
 mul-start : tie.Need-mul-start
 mul-start c = search needs
@@ -44,7 +44,7 @@ part-slot-of-end : tie.Need-part-slot-of-end
 part-slot-of-end c = search needs
 
 slot-of-requires : tie.Need-slot-of-requires
-slot-of-requires c κs = (omega arith, omega arith)
+slot-of-requires c κs = search needs
 
 returns : tie.Need-returns
 returns c = rw add-sub-cancel-left at (c .slot-of .ensures)

@@ -2,9 +2,9 @@ use native.Mathlib.Omega.{arith}
 use Prim.Native.Nat.{ℕ, _+_, _*_, _-_, _≤_, _<_}
 use lib.ListN.{length}
 use Rattle.writer_spec.specs.Search.{endOf}
-use Rattle.writer.proofs.Indexing.{inside-more}
-use Rattle.writer.proofs.inside.Statement.{statement}
-use Rattle.writer.proofs.inside.Tie as tie
+use Rattle.pool_index.proofs.Indexing.{inside-more}
+use Rattle.pool_index.proofs.inside.Statement.{statement}
+use Rattle.pool_index.proofs.inside.Tie as tie
 
 abbrev Inv-loop : tie.InvT-loop
 Inv-loop output pool names i₀ i = (i ≤ names) × ((j : ℕ) → j < i → endOf pool j ≤ length output)

@@ -1,8 +1,8 @@
 use native.Mathlib.Omega.{arith}
 use lib.ListN.{length-set}
 use borrow.Author.Needs.{needs}
-use Rattle.writer.proofs.index_pair.Statement.{statement}
-use Rattle.writer.proofs.index_pair.Tie as tie
+use Rattle.pool_index.proofs.index_pair.Statement.{statement}
+use Rattle.pool_index.proofs.index_pair.Tie as tie
 
 mul-index : tie.Need-mul-index
 mul-index c = search needs

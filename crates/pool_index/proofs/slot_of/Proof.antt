@@ -1,7 +1,7 @@
-use Rattle.writer.specs.Notes.{slotOf}
+use Rattle.pool_index.specs.Slots.{slotOf}
 use borrow.Author.Needs.{needs}
-use Rattle.writer.proofs.slot_of.Statement.{statement}
-use Rattle.writer.proofs.slot_of.Tie as tie
+use Rattle.pool_index.proofs.slot_of.Statement.{statement}
+use Rattle.pool_index.proofs.slot_of.Tie as tie
 
 hash-requires : tie.Need-hash-requires
 hash-requires c κs = search needs

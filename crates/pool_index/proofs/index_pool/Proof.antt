@@ -1,15 +1,16 @@
 use native.Mathlib.Omega.{arith}
-use mathlib.Core.Path.{_≡_, refl}
+use mathlib.Core.Path.{_≡_, refl, _∙_}
 use Prim.Native.Nat.{_+_, _-_, _≤_}
 use lib.ListN.{length, length-set}
-use Rattle.writer.specs.Index.{pairName, Chained}
-use Rattle.writer.proofs.Links.{slot-below}
-use Rattle.writer.proofs.Indexing.{chained-none, chained-more, indexed}
-use Rattle.writer.proofs.index_pool.Statement.{statement}
-use Rattle.writer.proofs.index_pool.Tie as tie
+use Rattle.pool_index.specs.Slots.{Fresh}
+use Rattle.pool_index.specs.Index.{pairName, Chained}
+use Rattle.pool_index.specs.Laws.{slot-below}
+use Rattle.pool_index.proofs.Indexing.{chained-none, chained-more, indexed}
+use Rattle.pool_index.proofs.index_pool.Statement.{statement}
+use Rattle.pool_index.proofs.index_pool.Tie as tie
 
 abbrev Inv-loop : tie.InvT-loop
-Inv-loop output pool names index₀ bound i₀ index i = (i ≤ bound) × Chained output pool bound index i × (length index ≡ length index₀)
+Inv-loop output pool names index₀ bound i₀ index i = (i ≤ bound) × (length index ≡ length index₀) × (Fresh index₀ → Chained output pool bound index i)
 
 abbrev μ-loop : tie.MeasureT-loop
 μ-loop output pool names index₀ bound i₀ index i = i
@@ -22,7 +23,7 @@ loop-holds c = let a = c .before .before .before .before .args in
     let p = c .before .before .before .before .pre in
     let s = c .inside in
     let few : s .result ≤ 65535 = omega (arith, s .ensures .below, p .0 .1) in
-    (omega arith, chained-none (a .output .now) (a .pool .now) (s .result) few (a .index .now) (p .1 .0) (p .1 .1), refl)
+    (omega arith, refl, λ f. chained-none (a .output .now) (a .pool .now) (s .result) few (a .index .now) (p .1) f)
 
 sub-i : tie.Need-sub-i Inv-loop μ-loop
 sub-i c = omega arith
@@ -40,7 +41,7 @@ index-pair-requires c κs = let a = c .before .before .before .before .before .b
     let l = c .before .before .before .loop in
     let s = c .before .before .before .before .inside in
     let few : s .result ≤ 65535 = omega (arith, s .ensures .below, p .0 .1) in
-    (l .inv .1 .whole, (omega (arith, slot-below 16384 (pairName (a .output .now) (a .pool .now) (l .i - 1)) (omega arith), c .before .pair-slot .ensures), omega (arith, few, l .inv .0)))
+    (l .inv .1 ∙ p .1, (omega (arith, slot-below 16384 (pairName (a .output .now) (a .pool .now) (l .i - 1)) (omega arith), c .before .pair-slot .ensures), omega (arith, few, l .inv .0)))
 
 loop-less : tie.Need-loop-less Inv-loop μ-loop
 loop-less c = omega arith
@@ -53,8 +54,7 @@ loop-again c = let a = c .before .before .before .before .before .before .before
     let few : s .result ≤ 65535 = omega (arith, s .ensures .below, p .0 .1) in
     let slot = c .before .before .before .before .pair-slot in
     let e : l .i - 1 + 1 ≡ l .i = omega arith in
-    let more = chained-more (a .output .now) (a .pool .now) (s .result) few (l .index) (l .i - 1) (omega (arith, l .inv .0)) (rw e (l .inv .1)) (slot .result) (slot .ensures) (omega (arith, slot-below 16384 (pairName (a .output .now) (a .pool .now) (l .i - 1)) (omega arith), c .before .before .before .before .pair-slot .ensures)) in
-    (omega (arith, l .inv .0), rw (c .before .before .index-pair .ensures) more, rw (c .before .before .index-pair .ensures, length-set, length-set) (l .inv .2))
+    (omega (arith, l .inv .0), rw (c .before .before .index-pair .ensures, length-set, length-set) (l .inv .1), λ f. rw (c .before .before .index-pair .ensures) (chained-more (a .output .now) (a .pool .now) (s .result) few (l .index) (l .i - 1) (omega (arith, l .inv .0)) (rw e (l .inv .2 f)) (slot .result) (slot .ensures) (omega (arith, slot-below 16384 (pairName (a .output .now) (a .pool .now) (l .i - 1)) (omega arith), c .before .before .before .before .pair-slot .ensures))))
 
 cast-index : tie.Need-cast-index Inv-loop μ-loop
 cast-index c = let a = c .before .before .before .before .before .before .args in
@@ -62,10 +62,10 @@ cast-index c = let a = c .before .before .before .before .before .before .args i
     omega (arith, c .before .before .inside .ensures .below, p .0 .1)
 
 slice-write-index : tie.Need-slice-write-index Inv-loop μ-loop
-slice-write-index c = omega (arith, c .before .loop .inv .1 .whole)
+slice-write-index c = omega (arith, c .before .loop .inv .1, c .before .before .before .before .before .before .pre .1)
 
 same-length : tie.Need-same-length Inv-loop μ-loop
-same-length c = rw length-set (c .before .loop .inv .2)
+same-length c = rw length-set (c .before .loop .inv .1)
 
 returns : tie.Need-returns Inv-loop μ-loop
 returns c = let a = c .before .before .before .before .before .before .args in
@@ -74,7 +74,7 @@ returns c = let a = c .before .before .before .before .before .before .args in
     let s = c .before .before .inside in
     let few : s .result ≤ 65535 = omega (arith, s .ensures .below, p .0 .1) in
     let z : l .i ≡ 0 = omega arith in
-    indexed (a .output .now) (a .pool .now) (s .result) few (a .names) (p .0 .1) (s .ensures) (l .index) (rw z at (l .inv .1))
+    λ f. indexed (a .output .now) (a .pool .now) (s .result) few (a .names) (p .0 .1) (s .ensures) (l .index) (rw z at (l .inv .2 f))
 
 pub index-pool-spec : {M : Type 1} → statement M
 index-pool-spec =

@@ -1,0 +1,4 @@
+pub mod Slots
+pub mod Search
+pub mod Index
+pub mod Laws
