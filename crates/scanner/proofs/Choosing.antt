@@ -24,7 +24,8 @@ use Rattle.slice_spec.specs.Queries.{Words, named, isElement, concat, kindOf}
 use Rattle.scanner.specs.declared.Pool.{Pool}
 use Rattle.scanner.specs.Keep.{PoolAfter, Keepable, ItemPlaced}
 use Rattle.grammar.specs.Turn.{rest}
-use Rattle.scanner.proofs.Walk.{soundOf, room-after, keepable-next, item-placed, first-fits, event-tag, event-single}
+use Rattle.scanner.specs.Turn.{soundOf}
+use Rattle.scanner.proofs.Walk.{room-after, keepable-next, item-placed, first-fits, event-tag, event-single}
 use Rattle.scanner.specs.declared.select.Query.{Query}
 use Rattle.scanner.specs.Select.{takesAll, takesOne, rowsOf, taken, chosen, Room, Chose}
 

@@ -1,5 +1,5 @@
 -- The walk that keeps new names and writes rows: fields, an attribute, and what is left after each.
-use mathlib.Core.Bool.{Bool, false}
+use mathlib.Core.Bool.{Bool, true, false}
 use mathlib.Core.List.{List, [], _∷_, _++_}
 use mathlib.Core.Option.{Option, none, some}
 use mathlib.Core.Path.{_≡_, refl, sym, ap, _∙_}
@@ -31,8 +31,10 @@ use Rattle.scanner.specs.declared.fill.Filled.{Filled}
 use Rattle.scanner.specs.declared.fill.Ahead.{Ahead}
 use Rattle.grammar.specs.Rows.{name-within, attribute-is, attribute-name, attribute-value}
 use Rattle.scanner.proofs.Keeping.{pairs-turn}
-use Rattle.scanner.proofs.Walk.{soundOf, Keeping, keeping-more, keeping-done, keeping-rest, first-room, first-fits, event-tag, event-single, item-placed, room-after, row-words, ended-attribute}
-use Rattle.grammar.specs.Turn.{attribute-fits, rest, rest-more}
+use Rattle.scanner.specs.Turn.{soundOf, isAttribute}
+use Rattle.scanner.proofs.Attributes.{Turn, turn-end, turn-row, left-names, stands, read-before, First, first-row, first-tag, first-single}
+use Rattle.scanner.proofs.Walk.{Keeping, keeping-more, keeping-done, others-kept, item-placed, room-after, row-words}
+use Rattle.grammar.specs.Turn.{rest}
 
 -- ---- what was read
 
@@ -284,11 +286,8 @@ pub record Filling (base : ℕ) (s : List ℕ) (S : ℕ → Bool) (T R : List �
   pub rows-fit : to + 8 * count is ≤ length rows
   pub rows-to : sets rows to (words 0 base T is) ≡ R
 
-module _ (base : ℕ) (s : List ℕ) (S : ℕ → Bool) (T R : List ℕ) where
-  pub filling-as : (a b : Items) (pool : Pool) (table rows : List ℕ) (to : ℕ) → a ≡ b → Filling base s S T R a pool table rows to → Filling base s S T R b pool table rows to
-  filling-as a b pool table rows to e g = rw (← e) g
-
-  module _ (i : Item) (is : Items) (p : Pool) (table rows : List ℕ) (to : ℕ) (g : Filling base s S T R (item i is) p table rows to) (f : ItemFits (length s) (p .names) i) where
+module _ {base : ℕ} {s : List ℕ} {S : ℕ → Bool} {T R : List ℕ} where
+  module _ {i : Item} {is : Items} {p : Pool} {table rows : List ℕ} {to : ℕ} (g : Filling base s S T R (item i is) p table rows to) (f : ItemFits (length s) (p .names) i) where
     filling-room : 2 * after (p .names) i ≤ length table
     filling-room = room-after base s table i is p (g .keeping .keepable)
 
@@ -299,7 +298,7 @@ module _ (base : ℕ) (s : List ℕ) (S : ℕ → Bool) (T R : List ℕ) where
     module _ (q : Pool) (table₁ rows₁ : List ℕ) (e : table₁ ≡ sets table (2 * p .names) (pairs base (addsItem (p .names) i))) (d : rows₁ ≡ sets rows to (itemWords 0 base table₁ i))
         (a : PoolAfter (after (p .names) i) p q) where
       kept-more : Keeping base s S T is q table₁
-      kept-more = keeping-more base s S T i is p table (g .keeping) f q table₁ e a
+      kept-more = keeping-more (g .keeping) f q table₁ e a
 
       row-to : rows₁ ≡ sets rows to (itemWords 0 base T i)
       row-to =
@@ -323,17 +322,19 @@ module _ (base : ℕ) (s : List ℕ) (S : ℕ → Bool) (T R : List ℕ) where
           }
 
   -- an attribute's row
-  filling-next : (i : Item) (n : ℕ) (p : Pool) (table rows : List ℕ) (to : ℕ) → Filling base s S T R (item i (rest S s (after (p .names) i) n)) p table rows to
+  filling-next : {i : Item} {p : Pool} {table rows : List ℕ} {to : ℕ} (n : ℕ) → Filling base s S T R (item i (rest S s (after (p .names) i) n)) p table rows to
       → ItemFits (length s) (p .names) i → (q : Pool) (table₁ rows₁ : List ℕ) → table₁ ≡ sets table (2 * p .names) (pairs base (addsItem (p .names) i))
       → rows₁ ≡ sets rows to (itemWords 0 base table₁ i) → PoolAfter (after (p .names) i) p q → Filling base s S T R (rest S s (q .names) n) q table₁ rows₁ (to + 8)
-  filling-next i n p table rows to g f q table₁ rows₁ e d a =
-      filling-as _ _ q table₁ rows₁ (to + 8) (ap (λ (x : ℕ). rest S s x n) (sym (a .names-are)))
-      (filling-more i (rest S s (after (p .names) i) n) p table rows to g f q table₁ rows₁ e d a)
+  filling-next {i} {p} {table} {rows} {to} n g f q table₁ rows₁ e d a =
+      left-names (λ is. Filling base s S T R is q table₁ rows₁ (to + 8)) S s n _ _ (a .names-are) (filling-more g f q table₁ rows₁ e d a)
 
   -- the end
-  pub filling-done : (n : ℕ) (e : Bool) (p : Pool) (table rows : List ℕ) (to : ℕ) → Filling base s S T R (whole n e) p table rows to → (table ≡ T) × (rows ≡ R)
+  filling-done : {n : ℕ} {e : Bool} {p : Pool} {table rows : List ℕ} {to : ℕ} → Filling base s S T R (whole n e) p table rows to → (table ≡ T) × (rows ≡ R)
   unfolding words
-  filling-done n e p table rows to g = (keeping-done base s S T n e p table (g .keeping), g .rows-to)
+  filling-done g = (keeping-done (g .keeping), g .rows-to)
+
+pub filling-long : {base : ℕ} {s : List ℕ} {S : ℕ → Bool} {T R : List ℕ} {is : Items} {p : Pool} {table rows : List ℕ} {to : ℕ} → Filling base s S T R is p table rows to → length rows ≡ length R
+filling-long {base} {s} {S} {T} {R} {is} {p} {table} {rows} {to} g = sym (length-sets rows to (words 0 base T is)) ∙ ap length (g .rows-to)
 
 -- where nothing is left
 pub filled : (to base : ℕ) (is : Items) (names : ℕ) (table table′ rows rows′ : List ℕ) → table′ ≡ sets table (2 * names) (pairs base (adds names is))
@@ -342,56 +343,53 @@ filled to base is names table table′ rows rows′ e d = record { table-is = e;
 
 -- ---- a turn of the loop
 
-module _ (base : ℕ) (s : List ℕ) (S : ℕ → Bool) (T R : List ℕ) (pool : Pool) (table rows : List ℕ) (to at : ℕ) (g : Filling base s S T R (rest S s (pool .names) at) pool table rows to)
-    (h : at < length s) (k : Token.command (getD s at 0) ≡ Token.attribute) where
-  abbrev can : Keepable base s (rest S s (pool .names) at) pool table
-  can = g .keeping .keepable
+module _ {base : ℕ} {s : List ℕ} {S : ℕ → Bool} {T R : List ℕ} {pool : Pool} {table rows : List ℕ} {to : ℕ} (at : ℕ) (g : Filling base s S T R (rest S s (pool .names) at) pool table rows to) where
+  abbrev Left : Items → Type 0
+  Left is = Filling base s S T R is pool table rows to
 
-  there : Got (attribute S (pool .names) s at)
-  there = ended-attribute S s (pool .names) at h k (can .ended)
+  pub filling-end : isAttribute s at ≡ false → (table ≡ T) × (rows ≡ R)
+  filling-end b = filling-done (turn-end Left S s (pool .names) at g b)
 
-  fits : (at < there .place) × (there .place ≤ length s) × ItemFits (length s) (pool .names) (there .it)
-  fits = attribute-fits S s (pool .names) at (there .it) (there .place) (omega (arith, h)) (there .is)
+  module _ (b : isAttribute s at ≡ true) where
+    abbrev can : Keepable base s (rest S s (pool .names) at) pool table
+    can = g .keeping .keepable
 
-  with-row : Filling base s S T R (item (there .it) (rest S s (after (pool .names) (there .it)) (there .place))) pool table rows to
-  with-row = filling-as base s S T R _ _ pool table rows to (rest-more S s (pool .names) at h k (there .it) (there .place) (there .is)) g
+    there : Got (attribute S (pool .names) s at)
+    there = read-before S s (pool .names) at (can .ended) b
 
-  there-is : attribute (sound (pool .kept) table (pool .stored)) (pool .names) s at ≡ got (there .it) (there .place)
-  there-is = ap (λ (x : ℕ → Bool). attribute x (pool .names) s at) (g .keeping .same-sound) ∙ there .is
+    turn : Turn Left S s (pool .names) at (there .it) (there .place)
+    turn = turn-row Left S s (pool .names) at g b _ _ (there .is)
 
-  pub turn-fillable : Fillable s (at + 1) base pool table
-  turn-fillable = record { within = omega (arith, h); in-store = can .in-store; kept-first = can .kept-first; names-fit = omega (arith, can .pairs-fit) }
+    there-is : attribute (soundOf pool table) (pool .names) s at ≡ got (there .it) (there .place)
+    there-is = ap (λ (x : ℕ → Bool). attribute x (pool .names) s at) (g .keeping .same-sound) ∙ there .is
 
-  pub turn-has : Has (λ i. 2 * after (pool .names) i ≤ length table) (attribute (sound (pool .kept) table (pool .stored)) (pool .names) s at)
-  turn-has =
-      it-has (λ i. 2 * after (pool .names) i ≤ length table) (attribute (sound (pool .kept) table (pool .stored)) (pool .names) s at) (there .it) (there .place) there-is
-      (filling-room base s S T R (there .it) _ pool table rows to with-row (fits .2))
+    pub turn-asks : Fillable s (at + 1) base pool table
+        × (Has (λ i. 2 * after (pool .names) i ≤ length table) (attribute (soundOf pool table) (pool .names) s at) × (to + 8 ≤ length rows))
+    turn-asks = (
+      record { within = omega (arith, stands s at b .0); in-store = can .in-store; kept-first = can .kept-first; names-fit = omega (arith, can .pairs-fit) },
+      (
+        it-has (λ i. 2 * after (pool .names) i ≤ length table) (attribute (soundOf pool table) (pool .names) s at) (there .it) (there .place) there-is
+            (filling-room (turn .left) (turn .fits)),
+        filling-row (turn .left) (turn .fits),
+      ),
+    )
 
-  pub turn-row : to + 8 ≤ length rows
-  turn-row = filling-row base s S T R (there .it) _ pool table rows to with-row (fits .2)
+    module _ (table₁ rows₁ : List ℕ) (a : Ahead) (o : Once (RowFilled base (pool .names) table table₁ rows rows₁ to a) (attribute (soundOf pool table) (pool .names) s at)) where
+      done : RowFilled base (pool .names) table table₁ rows rows₁ to a (there .it) (there .place)
+      done =
+          once-it (RowFilled base (pool .names) table table₁ rows rows₁ to a) (attribute (soundOf pool table) (pool .names) s at) (there .it) (there .place) there-is o
 
-  module _ (table₁ rows₁ : List ℕ) (a : Ahead)
-      (o : Once (RowFilled base (pool .names) table table₁ rows rows₁ to a) (attribute (sound (pool .kept) table (pool .stored)) (pool .names) s at)) where
-    done : RowFilled base (pool .names) table table₁ rows rows₁ to a (there .it) (there .place)
-    done =
-        once-it (RowFilled base (pool .names) table table₁ rows rows₁ to a) (attribute (sound (pool .kept) table (pool .stored)) (pool .names) s at) (there .it) (there .place)
-        there-is o
+      pub turn-moves : (at < a .next) × (a .next ≤ length s)
+      turn-moves = (omega (arith, turn .moves, done .moved), omega (arith, turn .within, done .moved))
 
-    pub turn-moves : (at < a .next) × (a .next ≤ length s)
-    turn-moves = (omega (arith, fits .0, done .moved), omega (arith, fits .1, done .moved))
+      abbrev after-it : Pool
+      after-it = record { kept = pool .kept; stored = pool .stored; names = a .names }
 
-    pub turn-lengths : (length table₁ ≡ length table) × (length rows₁ ≡ length rows)
-    turn-lengths =
-        (ap length (done .kept) ∙ length-sets table (2 * pool .names) (pairs base (addsItem (pool .names) (there .it))), ap length (done .stored) ∙ length-sets rows to (itemWords 0 base table₁ (there .it)))
-
-    abbrev after-it : Pool
-    after-it = record { kept = pool .kept; stored = pool .stored; names = a .names }
-
-    pub turn-more : Filling base s S T R (rest S s (a .names) (a .next)) after-it table₁ rows₁ (to + 8)
-    turn-more =
-        filling-as base s S T R _ _ after-it table₁ rows₁ (to + 8) (ap (λ (x : ℕ). rest S s (a .names) x) (sym (done .moved)))
-        (filling-next base s S T R (there .it) (there .place) pool table rows to with-row (fits .2) after-it table₁ rows₁ (done .kept) (done .stored)
-        (record { kept-stays = refl; stored-stays = refl; names-are = done .counts }))
+      pub turn-more : Filling base s S T R (rest S s (a .names) (a .next)) after-it table₁ rows₁ (to + 8)
+      turn-more =
+          rw (done .moved)
+          (filling-next (there .place) (turn .left) (turn .fits) after-it table₁ rows₁ (done .kept) (done .stored)
+          (record { kept-stays = refl; stored-stays = refl; names-are = done .counts }))
 
 -- ---- the event's own row, and what then is left
 
@@ -412,32 +410,20 @@ module _ (base : ℕ) (s : List ℕ) (p : Pool) (table rows : List ℕ) (w : Wri
   begin = record { keeping = record { same-sound = refl; keepable = w .keepable; table-to = refl }; rows-fit = w .rows-fit; rows-to = refl }
 
   module _ (i : Item) (n : ℕ) (e : first ok (p .names) s 0 ≡ got i n) where
-    row-fits : (n ≤ length s) × ItemFits (length s) (p .names) i
-    row-fits = first-fits ok s (p .names) i n e
-
-    pub begin-room : NameRoom base (p .names) table (i .name) × ValueRoom base (countedName (p .names) (i .name)) table (i .value)
-    begin-room = first-room base s ok Kept p table i n e (begin .keeping)
-
-    begin-as : (is : Items) → all ≡ item i is → Filling base s ok Kept Rows (item i is) p table rows 0
-    begin-as is d = filling-as base s ok Kept Rows all (item i is) p table rows 0 d begin
+    own-row : First (λ is. Filling base s ok Kept Rows is p table rows 0) s (p .names) i n
+    own-row = first-row (λ is. Filling base s ok Kept Rows is p table rows 0) ok s (p .names) begin i n e
 
     pub begin-placed : (table₁ : List ℕ) → table₁ ≡ sets table (2 * p .names) (pairs base (addsItem (p .names) i)) → (0 + 8 ≤ length rows) × ItemPlaced base table₁ i
     begin-placed table₁ k =
-        byTest (eqb (i .kind) Token.startTag) (λ b. placed (rest ok s (after (p .names) i) n) (event-tag ok s (p .names) i n e (eqb-true _ _ b)))
-        (λ b. placed (whole n false) (event-single ok s (p .names) i n e (eqb-false _ _ b)))
-      where
-        placed : (is : Items) → all ≡ item i is → (0 + 8 ≤ length rows) × ItemPlaced base table₁ i
-        placed is d =
-            let l : length table₁ ≡ length table = ap length k ∙ length-sets table (2 * p .names) (pairs base (addsItem (p .names) i)) in (
-              filling-row base s ok Kept Rows i is p table rows 0 (begin-as is d) (row-fits .1),
-              item-placed base (length s) table₁ (w .keepable .in-store) (p .names) i (row-fits .1)
-                  (omega (arith, l, filling-room base s ok Kept Rows i is p table rows 0 (begin-as is d) (row-fits .1))),
-            )
+        let l : length table₁ ≡ length table = ap length k ∙ length-sets table (2 * p .names) (pairs base (addsItem (p .names) i)) in (
+          filling-row (own-row .left) (own-row .fits),
+          item-placed base (length s) table₁ (w .keepable .in-store) (p .names) i (own-row .fits) (omega (arith, l, filling-room (own-row .left) (own-row .fits))),
+        )
 
     module _ (table₁ rows₁ : List ℕ) (k : table₁ ≡ sets table (2 * p .names) (pairs base (addsItem (p .names) i))) (d : rows₁ ≡ sets rows 0 (itemWords 0 base table₁ i)) where
       module _ (o : i .kind ≡ Token.startTag) (q : Pool) (a : PoolAfter (after (p .names) i) p q) where
         begin-next : Filling base s ok Kept Rows (rest ok s (q .names) n) q table₁ rows₁ 8
-        begin-next = filling-next base s ok Kept Rows i n p table rows 0 (begin-as _ (event-tag ok s (p .names) i n e o)) (row-fits .1) q table₁ rows₁ k d a
+        begin-next = filling-next n (first-tag (λ is. Filling base s ok Kept Rows is p table rows 0) ok s (p .names) begin i n e o) (own-row .fits) q table₁ rows₁ k d a
 
         pub begin-writable : Writable base s (rest (soundOf q table₁) s (q .names) n) q table₁ rows₁ 8
         begin-writable = rw (begin-next .keeping .same-sound) (record { keepable = begin-next .keeping .keepable; rows-fit = begin-next .rows-fit })
@@ -445,7 +431,7 @@ module _ (base : ℕ) (s : List ℕ) (p : Pool) (table rows : List ℕ) (w : Wri
         pub begin-rest : (table₂ rows₂ : List ℕ) → There 8 base (rest (soundOf q table₁) s (q .names) n) (q .names) table₁ table₂ rows₁ rows₂
             → There 0 base all (p .names) table table₂ rows rows₂
         begin-rest table₂ rows₂ x =
-            let t : table₂ ≡ Kept = keeping-rest base s ok Kept q table₁ table₂ n (begin-next .keeping) (x .table-is) in
+            let t : table₂ ≡ Kept = others-kept (w .keepable) i n e table₁ k o q a table₂ (x .table-is) in
             filled 0 base all (p .names) table table₂ rows rows₂ t
             (x .rows-is
             ∙ ap (λ (y : ℕ → Bool). sets rows₁ 8 (words 0 base table₂ (rest y s (q .names) n))) (begin-next .keeping .same-sound)
@@ -456,7 +442,7 @@ module _ (base : ℕ) (s : List ℕ) (p : Pool) (table rows : List ℕ) (w : Wri
       begin-single o =
           let q : Pool = record { kept = p .kept; stored = p .stored; names = after (p .names) i } in
           let x =
-          filling-done base s ok Kept Rows n false q table₁ rows₁ 8
-          (filling-more base s ok Kept Rows i (whole n false) p table rows 0 (begin-as _ (event-single ok s (p .names) i n e o)) (row-fits .1) q table₁ rows₁ k d
+          filling-done
+          (filling-more (first-single (λ is. Filling base s ok Kept Rows is p table rows 0) ok s (p .names) begin i n e o) (own-row .fits) q table₁ rows₁ k d
           (record { kept-stays = refl; stored-stays = refl; names-are = refl })) in
           filled 0 base all (p .names) table table₁ rows rows₁ (x .0) (x .1)

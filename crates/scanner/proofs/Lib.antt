@@ -1,4 +1,5 @@
 mod Tallies
+mod Attributes
 mod Rest
 mod Keeping
 mod Walk

@@ -14,7 +14,7 @@ use Rattle.grammar.specs.Stores.{sound-sets, pairs-length, copied-length}
 use Rattle.scanner.specs.declared.Pool.{Pool}
 use Rattle.wire.specs.Limits.{maxStore}
 use Rattle.scanner.specs.Keep.{moved, carried, Movable, Ended, Writable, Copyable, Copied}
-use Rattle.scanner.proofs.Walk.{soundOf}
+use Rattle.scanner.specs.Turn.{soundOf}
 use Rattle.scanner.proofs.Keeping.{moved-pairs, carried-pairs, pairs-movable}
 
 -- what was read well: its reading is complete

@@ -28,7 +28,7 @@ use Rattle.slice_spec.specs.Turns.{Turn, passed, halted, passing, turnBy, turnO
 use Rattle.scanner.specs.declared.Pool.{Pool}
 use Rattle.wire.specs.Limits.{maxStore}
 use Rattle.scanner.specs.Keep.{Keepable}
-use Rattle.scanner.proofs.Walk.{soundOf}
+use Rattle.scanner.specs.Turn.{soundOf}
 use Rattle.scanner.proofs.Passes.{complete-ended}
 use Rattle.scanner.specs.declared.select.Query.{Query}
 use Rattle.scanner.specs.declared.select.Query.the-variants as Query

@@ -1,5 +1,5 @@
 -- The second pass, row by row: what is left to do of an event after each row.
-use mathlib.Core.Bool.{Bool, false}
+use mathlib.Core.Bool.{Bool, true, false}
 use mathlib.Core.Option.{Option, none, some}
 use mathlib.Core.List.{List, [], _∷_, _++_}
 use mathlib.Core.Path.{_≡_, refl, sym, ap, _∙_}
@@ -25,7 +25,9 @@ use Rattle.grammar.specs.Binds.{Got}
 use Rattle.wire.specs.Limits.{maxStore}
 use Rattle.scanner.specs.declared.Pool.{Pool}
 use Rattle.scanner.specs.Keep.{PoolAfter, RefRoom, NameRoom, ValueRoom, RefPlaced, NamePlaced, ValuePlaced, ItemPlaced, Ended, Keepable, Writable}
+use Rattle.scanner.specs.Turn.{soundOf, isAttribute}
 use Rattle.grammar.specs.Turn.{rest, rest-short, rest-stops}
+use Rattle.scanner.proofs.Attributes.{Turn, turn-end, turn-again, left-names, First, first-row, first-tag, first-single}
 use Rattle.scanner.proofs.Keeping.{pairs-turn}
 
 -- ---- an event that was read well: each of its rows was
@@ -92,6 +94,10 @@ pub pool-grown : (n : ℕ) (t : Span) (p q r : Pool) → PoolAfter n p q → r �
 unfolding counted poolGrown
 pool-grown n t p q r a e = rw (e, ← a .names-are) (record { kept-stays = a .kept-stays; stored-stays = a .stored-stays; names-are = refl })
 
+-- what is known of its entries stays
+pub sound-next : (table : List ℕ) (n : ℕ) (p q : Pool) → PoolAfter n p q → soundOf q table ≡ soundOf p table
+sound-next table n p q a = ap (λ (x : ℕ). sound x table (q .stored)) (a .kept-stays) ∙ ap (λ (x : ℕ). sound (p .kept) table x) (a .stored-stays)
+
 -- ---- new names
 
 -- room stays where the table is as long
@@ -134,12 +140,12 @@ module _ (base l : ℕ) (table : List ℕ) (h : base + l ≤ maxStore) where
       let b = countedValue-adds (countedName k (i .name)) (i .value) in
       (name-room k k (i .name) (f .name-fits) (omega arith), value-room (countedName k (i .name)) (countedName k (i .name)) _ (i .value) (f .value-fits) n)
 
--- what the code knows of the pool's entries, and the table once the names from a place on are kept
-abbrev pub soundOf : Pool → List ℕ → ℕ → Bool
-soundOf pool table = sound (pool .kept) table (pool .stored)
-
+-- the table once the names from a place on are kept
 abbrev pub KeepsTo : ℕ → List ℕ → Pool → List ℕ → ℕ → List ℕ
 KeepsTo base s pool table at = sets table (2 * pool .names) (pairs base (adds (pool .names) (rest (soundOf pool table) s (pool .names) at)))
+
+pub keeps-long : (base : ℕ) (s : List ℕ) (pool : Pool) (table : List ℕ) (at : ℕ) → length (KeepsTo base s pool table at) ≡ length table
+keeps-long base s pool table at = length-sets table (2 * pool .names) (pairs base (adds (pool .names) (rest (soundOf pool table) s (pool .names) at)))
 
 -- what can still be kept after a row: the table has room for its pairs, and for those after them
 module _ (base : ℕ) (s table : List ℕ) (i : Item) (is : Items) (p : Pool) (k : Keepable base s (item i is) p table) where
@@ -160,16 +166,12 @@ module _ (base : ℕ) (s table : List ℕ) (i : Item) (is : Items) (p : Pool) (k
 
 -- what is left: these rows' names to be kept make the table T
 pub record Keeping (base : ℕ) (s : List ℕ) (S : ℕ → Bool) (T : List ℕ) (is : Items) (pool : Pool) (table : List ℕ) : Type 0 where
-  pub same-sound : sound (pool .kept) table (pool .stored) ≡ S
+  pub same-sound : soundOf pool table ≡ S
   pub keepable : Keepable base s is pool table
   pub table-to : sets table (2 * pool .names) (pairs base (adds (pool .names) is)) ≡ T
 
-module _ (base : ℕ) (s : List ℕ) (S : ℕ → Bool) (T : List ℕ) where
-  -- the rows as another list of them
-  pub keeping-as : (a b : Items) (pool : Pool) (table : List ℕ) → a ≡ b → Keeping base s S T a pool table → Keeping base s S T b pool table
-  keeping-as a b pool table e g = rw (← e) g
-
-  module _ (i : Item) (is : Items) (p : Pool) (table : List ℕ) (g : Keeping base s S T (item i is) p table) (f : ItemFits (length s) (p .names) i) where
+module _ {base : ℕ} {s : List ℕ} {S : ℕ → Bool} {T : List ℕ} where
+  module _ {i : Item} {is : Items} {p : Pool} {table : List ℕ} (g : Keeping base s S T (item i is) p table) (f : ItemFits (length s) (p .names) i) where
     pub keeping-room : NameRoom base (p .names) table (i .name) × ValueRoom base (countedName (p .names) (i .name)) table (i .value)
     keeping-room = item-room base (length s) table (g .keepable .in-store) (p .names) i f (room-after base s table i is p (g .keepable))
 
@@ -184,8 +186,7 @@ module _ (base : ℕ) (s : List ℕ) (S : ℕ → Bool) (T : List ℕ) where
         let k = g .keepable in
         record {
           same-sound =
-              ap (λ (x : ℕ). sound x table₁ (q .stored)) (a .kept-stays)
-              ∙ ap (λ (x : ℕ). sound (p .kept) table₁ x) (a .stored-stays)
+              sound-next table₁ _ p q a
               ∙ ap (λ (x : List ℕ). sound (p .kept) x (p .stored)) e
               ∙ sound-sets (p .kept) (p .stored) table (2 * p .names) (pairs base ts) (omega (arith, k .kept-first))
               ∙ g .same-sound;
@@ -198,38 +199,62 @@ module _ (base : ℕ) (s : List ℕ) (S : ℕ → Bool) (T : List ℕ) where
         }
 
   -- an attribute's row
-  pub keeping-next : (i : Item) (n : ℕ) (p : Pool) (table : List ℕ) → Keeping base s S T (item i (rest S s (after (p .names) i) n)) p table → ItemFits (length s) (p .names) i
+  pub keeping-next : {i : Item} {p : Pool} {table : List ℕ} (n : ℕ) → Keeping base s S T (item i (rest S s (after (p .names) i) n)) p table → ItemFits (length s) (p .names) i
       → (q : Pool) (table₁ : List ℕ) → table₁ ≡ sets table (2 * p .names) (pairs base (addsItem (p .names) i)) → PoolAfter (after (p .names) i) p q
       → Keeping base s S T (rest S s (q .names) n) q table₁
-  keeping-next i n p table g f q table₁ e a =
-      keeping-as _ _ q table₁ (ap (λ (x : ℕ). rest S s x n) (sym (a .names-are))) (keeping-more i (rest S s (after (p .names) i) n) p table g f q table₁ e a)
+  keeping-next n g f q table₁ e a = left-names (λ is. Keeping base s S T is q table₁) S s n _ _ (a .names-are) (keeping-more g f q table₁ e a)
 
-  pub keeping-done : (n : ℕ) (e : Bool) (p : Pool) (table : List ℕ) → Keeping base s S T (whole n e) p table → table ≡ T
+  pub keeping-done : {n : ℕ} {e : Bool} {p : Pool} {table : List ℕ} → Keeping base s S T (whole n e) p table → table ≡ T
   unfolding adds pairs
-  keeping-done n e p table g = g .table-to
+  keeping-done g = g .table-to
 
-  -- an event of one row
-  pub keeping-one : (n : ℕ) (e : Bool) (i : Item) (p : Pool) (table : List ℕ) → Keeping base s S T (item i (whole n e)) p table → ItemFits (length s) (p .names) i
-      → (table₁ : List ℕ) → table₁ ≡ sets table (2 * p .names) (pairs base (addsItem (p .names) i)) → table₁ ≡ T
-  keeping-one n e i p table g f table₁ k =
-      keeping-done n e (afterPool p i) table₁ (keeping-more i (whole n e) p table g f (afterPool p i) table₁ k (after-pool p i))
+  -- at a place: nothing is left, or an attribute is, which was read before
+  module _ {p : Pool} {table : List ℕ} (at : ℕ) (g : Keeping base s S T (rest S s (p .names) at) p table) where
+    pub keeping-end : isAttribute s at ≡ false → table ≡ T
+    keeping-end b = keeping-done (turn-end (λ is. Keeping base s S T is p table) S s (p .names) at g b)
 
-  -- the event's own row
-  pub first-room : (p : Pool) (table : List ℕ) (i : Item) (n : ℕ) → first S (p .names) s 0 ≡ got i n → Keeping base s S T (event S (p .names) s) p table
-      → NameRoom base (p .names) table (i .name) × ValueRoom base (countedName (p .names) (i .name)) table (i .value)
-  first-room p table i n e g =
-      byTest (eqb (i .kind) Token.startTag)
-      (λ b. keeping-room i _ p table (keeping-as _ _ p table (event-tag S s (p .names) i n e (eqb-true _ _ b)) g) (first-fits S s (p .names) i n e .1))
-      (λ b. keeping-room i _ p table (keeping-as _ _ p table (event-single S s (p .names) i n e (eqb-false _ _ b)) g) (first-fits S s (p .names) i n e .1))
+    pub keeping-turn : isAttribute s at ≡ true → (x : Read Item) → x ≡ attribute (soundOf p table) (p .names) s at → (i : Item) (n : ℕ) → x ≡ got i n
+        → Turn (λ is. Keeping base s S T is p table) S s (p .names) at i n
+    keeping-turn = turn-again S at (g .same-sound) (g .keepable) (λ is. Keeping base s S T is p table) g
 
-  pub keeping-rest : (p : Pool) (table table₁ : List ℕ) (n : ℕ) → Keeping base s S T (rest S s (p .names) n) p table
-      → table₁ ≡ sets table (2 * p .names) (pairs base (adds (p .names) (rest (sound (p .kept) table (p .stored)) s (p .names) n))) → table₁ ≡ T
-  keeping-rest p table table₁ n g e =
-      e ∙ ap (λ (x : ℕ → Bool). sets table (2 * p .names) (pairs base (adds (p .names) (rest x s (p .names) n)))) (g .same-sound) ∙ g .table-to
+pub keeping-long : {base : ℕ} {s : List ℕ} {S : ℕ → Bool} {T : List ℕ} {is : Items} {p : Pool} {table : List ℕ} → Keeping base s S T is p table → length table ≡ length T
+keeping-long {base} {s} {S} {T} {is} {p} {table} g = sym (length-sets table (2 * p .names) (pairs base (adds (p .names) is))) ∙ ap length (g .table-to)
 
-  pub keepable-rest : (p : Pool) (table : List ℕ) (n : ℕ) → Keeping base s S T (rest S s (p .names) n) p table
-      → Keepable base s (rest (sound (p .kept) table (p .stored)) s (p .names) n) p table
-  keepable-rest p table n g = rw (g .same-sound) (g .keepable)
+-- an event
+module _ {base : ℕ} {s table : List ℕ} {p : Pool} (k : Keepable base s (event (soundOf p table) (p .names) s) p table) where
+  abbrev Kept : List ℕ
+  Kept = sets table (2 * p .names) (pairs base (adds (p .names) (event (soundOf p table) (p .names) s)))
+
+  abbrev Names : Items → Type 0
+  Names is = Keeping base s (soundOf p table) Kept is p table
+
+  keeping-all : Names (event (soundOf p table) (p .names) s)
+  keeping-all = record { same-sound = refl; keepable = k; table-to = refl }
+
+  module _ (i : Item) (n : ℕ) (e : first (soundOf p table) (p .names) s 0 ≡ got i n) where
+    own : First Names s (p .names) i n
+    own = first-row Names _ s (p .names) keeping-all i n e
+
+    pub own-within : n ≤ length s
+    own-within = own .within
+
+    pub own-room : NameRoom base (p .names) table (i .name) × ValueRoom base (countedName (p .names) (i .name)) table (i .value)
+    own-room = keeping-room (own .left) (own .fits)
+
+    module _ (table₁ : List ℕ) (d : table₁ ≡ sets table (2 * p .names) (pairs base (addsItem (p .names) i))) where
+      module _ (b : i .kind ≡ Token.startTag) (q : Pool) (a : PoolAfter (after (p .names) i) p q) where
+        others : Keeping base s (soundOf p table) Kept (rest (soundOf p table) s (q .names) n) q table₁
+        others = keeping-next n (first-tag Names _ s (p .names) keeping-all i n e b) (own .fits) q table₁ d a
+
+        pub others-keepable : Keepable base s (rest (soundOf q table₁) s (q .names) n) q table₁
+        others-keepable = rw (others .same-sound) (others .keepable)
+
+        pub others-kept : (table₂ : List ℕ) → table₂ ≡ sets table₁ (2 * q .names) (pairs base (adds (q .names) (rest (soundOf q table₁) s (q .names) n))) → table₂ ≡ Kept
+        others-kept table₂ c =
+            c ∙ ap (λ (x : ℕ → Bool). sets table₁ (2 * q .names) (pairs base (adds (q .names) (rest x s (q .names) n)))) (others .same-sound) ∙ others .table-to
+
+      pub own-kept : (i .kind ≡ Token.startTag → ⊥) → table₁ ≡ Kept
+      own-kept b = keeping-done (keeping-more (first-single Names _ s (p .names) keeping-all i n e b) (own .fits) (afterPool p i) table₁ d (after-pool p i))
 
 -- ---- rows
 
@@ -269,17 +294,17 @@ row-words rows to kind type type′ n n′ v v′ e f g = rw (e, f, g)
 abbrev pub WritesTo : ℕ → ℕ → List ℕ → List ℕ → Pool → List ℕ → ℕ → ℕ → List ℕ
 WritesTo pooled base s table pool rows to at = sets rows to (words pooled base table (rest (soundOf pool table) s (pool .names) at))
 
+pub writes-long : (pooled base : ℕ) (s table : List ℕ) (pool : Pool) (rows : List ℕ) (to at : ℕ) → length (WritesTo pooled base s table pool rows to at) ≡ length rows
+writes-long pooled base s table pool rows to at = length-sets rows to (words pooled base table (rest (soundOf pool table) s (pool .names) at))
+
 -- what is left: these rows written from the word `to` on make R
 pub record Writing (pooled base : ℕ) (s : List ℕ) (S : ℕ → Bool) (table R : List ℕ) (is : Items) (pool : Pool) (rows : List ℕ) (to : ℕ) : Type 0 where
-  pub same-sound : sound (pool .kept) table (pool .stored) ≡ S
+  pub same-sound : soundOf pool table ≡ S
   pub writable : Writable base s is pool table rows to
   pub rows-to : sets rows to (words pooled base table is) ≡ R
 
-module _ (pooled base : ℕ) (s : List ℕ) (S : ℕ → Bool) (table R : List ℕ) where
-  pub writing-as : (a b : Items) (pool : Pool) (rows : List ℕ) (to : ℕ) → a ≡ b → Writing pooled base s S table R a pool rows to → Writing pooled base s S table R b pool rows to
-  writing-as a b pool rows to e g = rw (← e) g
-
-  module _ (i : Item) (is : Items) (p : Pool) (rows : List ℕ) (to : ℕ) (g : Writing pooled base s S table R (item i is) p rows to) (f : ItemFits (length s) (p .names) i) where
+module _ {pooled base : ℕ} {s : List ℕ} {S : ℕ → Bool} {table R : List ℕ} where
+  module _ {i : Item} {is : Items} {p : Pool} {rows : List ℕ} {to : ℕ} (g : Writing pooled base s S table R (item i is) p rows to) (f : ItemFits (length s) (p .names) i) where
     pub writing-placed : (to + 8 ≤ length rows) × ItemPlaced base table i
     unfolding adds count
     writing-placed =
@@ -294,8 +319,7 @@ module _ (pooled base : ℕ) (s : List ℕ) (S : ℕ → Bool) (table R : List �
         let ws : List ℕ = itemWords pooled base table i in
         let l : length rows₁ ≡ length rows = ap length e ∙ length-sets rows to ws in
         record {
-          same-sound =
-              ap (λ (x : ℕ). sound x table (q .stored)) (a .kept-stays) ∙ ap (λ (x : ℕ). sound (p .kept) table x) (a .stored-stays) ∙ g .same-sound;
+          same-sound = sound-next table _ p q a ∙ g .same-sound;
           writable =
               record {
                 keepable = keepable-next base s table i is p k q table refl a;
@@ -309,35 +333,57 @@ module _ (pooled base : ℕ) (s : List ℕ) (S : ℕ → Bool) (table R : List �
         }
 
   -- an attribute's row
-  pub writing-next : (i : Item) (n : ℕ) (p : Pool) (rows : List ℕ) (to : ℕ) → Writing pooled base s S table R (item i (rest S s (after (p .names) i) n)) p rows to → ItemFits (length s) (p .names) i
+  pub writing-next : {i : Item} {p : Pool} {rows : List ℕ} {to : ℕ} (n : ℕ) → Writing pooled base s S table R (item i (rest S s (after (p .names) i) n)) p rows to → ItemFits (length s) (p .names) i
       → (q : Pool) (rows₁ : List ℕ) → rows₁ ≡ sets rows to (itemWords pooled base table i) → PoolAfter (after (p .names) i) p q
       → Writing pooled base s S table R (rest S s (q .names) n) q rows₁ (to + 8)
-  writing-next i n p rows to g f q rows₁ e a =
-      writing-as _ _ q rows₁ (to + 8) (ap (λ (x : ℕ). rest S s x n) (sym (a .names-are))) (writing-more i (rest S s (after (p .names) i) n) p rows to g f q rows₁ e a)
+  writing-next {i} {p} {rows} {to} n g f q rows₁ e a = left-names (λ is. Writing pooled base s S table R is q rows₁ (to + 8)) S s n _ _ (a .names-are) (writing-more g f q rows₁ e a)
 
-  pub writing-done : (n : ℕ) (e : Bool) (p : Pool) (rows : List ℕ) (to : ℕ) → Writing pooled base s S table R (whole n e) p rows to → rows ≡ R
+  pub writing-done : {n : ℕ} {e : Bool} {p : Pool} {rows : List ℕ} {to : ℕ} → Writing pooled base s S table R (whole n e) p rows to → rows ≡ R
   unfolding words
-  writing-done n e p rows to g = g .rows-to
+  writing-done g = g .rows-to
 
-  -- an event of one row
-  pub writing-one : (n : ℕ) (e : Bool) (i : Item) (p : Pool) (rows : List ℕ) (to : ℕ) → Writing pooled base s S table R (item i (whole n e)) p rows to → ItemFits (length s) (p .names) i
-      → (rows₁ : List ℕ) → rows₁ ≡ sets rows to (itemWords pooled base table i) → rows₁ ≡ R
-  writing-one n e i p rows to g f rows₁ k =
-      writing-done n e (afterPool p i) rows₁ (to + 8) (writing-more i (whole n e) p rows to g f (afterPool p i) rows₁ k (after-pool p i))
+  -- at a place: nothing is left, or an attribute is, which was read before
+  module _ {p : Pool} {rows : List ℕ} {to : ℕ} (at : ℕ) (g : Writing pooled base s S table R (rest S s (p .names) at) p rows to) where
+    pub writing-end : isAttribute s at ≡ false → rows ≡ R
+    writing-end b = writing-done (turn-end (λ is. Writing pooled base s S table R is p rows to) S s (p .names) at g b)
 
-  -- the event's own row
-  pub first-placed : (p : Pool) (rows : List ℕ) (i : Item) (n : ℕ) → first S (p .names) s 0 ≡ got i n → Writing pooled base s S table R (event S (p .names) s) p rows 0
-      → (0 + 8 ≤ length rows) × ItemPlaced base table i
-  first-placed p rows i n e g =
-      byTest (eqb (i .kind) Token.startTag)
-      (λ b. writing-placed i _ p rows 0 (writing-as _ _ p rows 0 (event-tag S s (p .names) i n e (eqb-true _ _ b)) g) (first-fits S s (p .names) i n e .1))
-      (λ b. writing-placed i _ p rows 0 (writing-as _ _ p rows 0 (event-single S s (p .names) i n e (eqb-false _ _ b)) g) (first-fits S s (p .names) i n e .1))
+    pub writing-turn : isAttribute s at ≡ true → (x : Read Item) → x ≡ attribute (soundOf p table) (p .names) s at → (i : Item) (n : ℕ) → x ≡ got i n
+        → Turn (λ is. Writing pooled base s S table R is p rows to) S s (p .names) at i n
+    writing-turn = turn-again S at (g .same-sound) (g .writable .keepable) (λ is. Writing pooled base s S table R is p rows to) g
 
-  pub writing-rest : (p : Pool) (rows rows₁ : List ℕ) (to n : ℕ) → Writing pooled base s S table R (rest S s (p .names) n) p rows to
-      → rows₁ ≡ sets rows to (words pooled base table (rest (sound (p .kept) table (p .stored)) s (p .names) n)) → rows₁ ≡ R
-  writing-rest p rows rows₁ to n g e =
-      e ∙ ap (λ (x : ℕ → Bool). sets rows to (words pooled base table (rest x s (p .names) n))) (g .same-sound) ∙ g .rows-to
+pub writing-long : {pooled base : ℕ} {s : List ℕ} {S : ℕ → Bool} {table R : List ℕ} {is : Items} {p : Pool} {rows : List ℕ} {to : ℕ}
+    → Writing pooled base s S table R is p rows to → length rows ≡ length R
+writing-long {pooled} {base} {s} {S} {table} {R} {is} {p} {rows} {to} g = sym (length-sets rows to (words pooled base table is)) ∙ ap length (g .rows-to)
 
-  pub writable-rest : (p : Pool) (rows : List ℕ) (to n : ℕ) → Writing pooled base s S table R (rest S s (p .names) n) p rows to
-      → Writable base s (rest (sound (p .kept) table (p .stored)) s (p .names) n) p table rows to
-  writable-rest p rows to n g = rw (g .same-sound) (g .writable)
+-- an event
+module _ (pooled : ℕ) {base : ℕ} {s table rows : List ℕ} {p : Pool} (w : Writable base s (event (soundOf p table) (p .names) s) p table rows 0) where
+  abbrev Written : List ℕ
+  Written = sets rows 0 (words pooled base table (event (soundOf p table) (p .names) s))
+
+  abbrev Rows : Items → Type 0
+  Rows is = Writing pooled base s (soundOf p table) table Written is p rows 0
+
+  writing-all : Rows (event (soundOf p table) (p .names) s)
+  writing-all = record { same-sound = refl; writable = w; rows-to = refl }
+
+  module _ (i : Item) (n : ℕ) (e : first (soundOf p table) (p .names) s 0 ≡ got i n) where
+    own-row : First Rows s (p .names) i n
+    own-row = first-row Rows _ s (p .names) writing-all i n e
+
+    pub own-placed : (0 + 8 ≤ length rows) × ItemPlaced base table i
+    own-placed = writing-placed (own-row .left) (own-row .fits)
+
+    module _ (rows₁ : List ℕ) (d : rows₁ ≡ sets rows 0 (itemWords pooled base table i)) where
+      module _ (b : i .kind ≡ Token.startTag) (q : Pool) (a : PoolAfter (after (p .names) i) p q) where
+        other-rows : Writing pooled base s (soundOf p table) table Written (rest (soundOf p table) s (q .names) n) q rows₁ 8
+        other-rows = writing-next n (first-tag Rows _ s (p .names) writing-all i n e b) (own-row .fits) q rows₁ d a
+
+        pub others-writable : Writable base s (rest (soundOf q table) s (q .names) n) q table rows₁ 8
+        others-writable = rw (other-rows .same-sound) (other-rows .writable)
+
+        pub others-written : (rows₂ : List ℕ) → rows₂ ≡ sets rows₁ 8 (words pooled base table (rest (soundOf q table) s (q .names) n)) → rows₂ ≡ Written
+        others-written rows₂ c =
+            c ∙ ap (λ (x : ℕ → Bool). sets rows₁ 8 (words pooled base table (rest x s (q .names) n))) (other-rows .same-sound) ∙ other-rows .rows-to
+
+      pub own-written : (i .kind ≡ Token.startTag → ⊥) → rows₁ ≡ Written
+      own-written b = writing-done (writing-more (first-single Rows _ s (p .names) writing-all i n e b) (own-row .fits) (afterPool p i) rows₁ d (after-pool p i))

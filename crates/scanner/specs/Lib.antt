@@ -5,3 +5,4 @@ pub mod Keep
 pub mod Fill
 pub mod Step
 pub mod Select
+pub mod Turn

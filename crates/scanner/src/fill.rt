@@ -1,6 +1,5 @@
 // The second pass over an event whose new names stay where they are: their pairs and the rows, in one walk. What is read was read
 // before, by the first pass.
-use crate::ItemRead;
 use crate::Name;
 use crate::Pool;
 use crate::Text;
@@ -214,12 +213,7 @@ fn rest(
     let mut at = from;
     let mut names = start.names;
     let mut to = 8;
-    while at < s.len() {
-        let command = Command::new(tokens, s[at]);
-        let kind = command.0;
-        if kind != Command::ATTRIBUTE {
-            return;
-        }
+    while crate::is_attribute(s, at, tokens) {
         let pool = Pool {
             kept: start.kept,
             stored: start.stored,
@@ -245,24 +239,19 @@ pub(crate) fn fill(
     requires { ⌜ Writable base (now s) (event (sound (pool .kept) (now table) (pool .stored)) (pool .names) (now s)) pool (now table) (now rows) 0 ⌝ }
     ensures { λ _. ⌜ There 0 base (event (sound (pool .kept) (now (table .entry)) (pool .stored)) (pool .names) (now (s .entry))) (pool .names) (now (table .entry)) (now (table .exit)) (now (rows .entry)) (now (rows .exit)) ⌝ }
 {
-    match crate::first_at(s, false, tokens, table, pool) {
-        ItemRead::Got { item, next } => {
-            crate::keep_item(table, pool, base, item);
-            crate::put_item(rows, 0, 0, base, table, item);
-            let kind = item.kind;
-            if kind == Command::START_TAG {
-                rest(
-                    s,
-                    next,
-                    base,
-                    tokens,
-                    table,
-                    crate::after_item(pool, item),
-                    rows,
-                );
-            }
-        }
-        ItemRead::Short(_) => {}
-        ItemRead::Refused(_) => {}
+    let row = crate::row_of(crate::first_at(s, false, tokens, table, pool));
+    let item = row.item;
+    crate::keep_item(table, pool, base, item);
+    crate::put_item(rows, 0, 0, base, table, item);
+    if item.kind == Command::START_TAG {
+        rest(
+            s,
+            row.next,
+            base,
+            tokens,
+            table,
+            crate::after_item(pool, item),
+            rows,
+        );
     }
 }

@@ -22,6 +22,7 @@ ghost use lib.ListN.{length, getD, take, drop};
 ghost use lib.Seq.{sets};
 ghost use Rattle.wire.specs.Limits.{maxStore};
 ghost use Rattle.wire.specs.Token.{builtIn, command, endTag};
+ghost use Rattle.grammar.specs.Reader.{got};
 ghost use Rattle.grammar.specs.Grammar.{u16, u32, u64, string, blob, name, value, attribute, first, most, countedName, countedValue, lacks, whole, new, after, attributesF, event};
 ghost use Rattle.grammar.specs.Document.{typeOf};
 ghost use Rattle.grammar.specs.Scan.{sound, outcome, measure, addsRef, addsName, addsValue, addsItem, adds, lengths, pairs, nameWords, valueWords, itemWords, words};
@@ -29,7 +30,9 @@ ghost use Rattle.scanner.specs.Tally.{Small, NameSmall, ValueSmall, Item
 ghost use Rattle.scanner.specs.Lean.{PassedItem};
 ghost use Rattle.scanner.specs.Keep.{Copyable, Copied, NamePlaced, ValuePlaced, ItemPlaced, NameRoom, ValueRoom, PoolAfter, Keepable, Writable, wordsOf, moved, carried, Movable};
 ghost use Rattle.scanner.specs.Step.{SteppedQuickly, Ready, readBy, stepOf, step, tooLong, outside};
+ghost use Rattle.scanner.specs.Turn.{isAttribute};
 ghost use Rattle.scanner.specs.Answers.{numberOf, textOf, nameOf, valueReadOf, asText, asInterned, asWord, asPair, valueOf, itemOf, poolGrown, referenceOf, itemReadOf, Trusted};
+ghost use Rattle.grammar.specs.Binds.{Got};
 ghost use Rattle.grammar.specs.Names.{newName};
 ghost use Rattle.grammar.specs.Rows.{asAttribute, asTag, asTextRow};
 
@@ -397,6 +400,49 @@ fn attribute_at(
         }
         Name::Short(k) => ItemRead::Short(k),
         Name::Refused(r) => ItemRead::Refused(r),
+    }
+}
+
+// Whether an attribute stands at a place.
+fn is_attribute(s: &[u8], at: usize, tokens: &[u16; 256]) -> bool
+    requires { ⌜ now tokens ≡ builtIn ⌝ }
+    ensures { λ r. ⌜ r ≡ isAttribute (now (s .entry)) at ⌝ }
+{
+    if at < s.len() {
+        let command = Command::new(tokens, s[at]);
+        return command.0 == Command::ATTRIBUTE;
+    }
+    false
+}
+
+// A row, and the place after it.
+pub struct Row {
+    pub item: Item,
+    pub next: usize,
+}
+
+// The row of a reading that gave one.
+fn row_of(r: ItemRead) -> Row
+    requires { ⌜ Got (itemReadOf r) ⌝ }
+    ensures { λ w. ⌜ itemReadOf r ≡ got (itemOf (w .item)) (w .next) ⌝ }
+{
+    match r {
+        ItemRead::Got { item, next } => Row { item, next },
+        ItemRead::Short(_) => no_row(),
+        ItemRead::Refused(_) => no_row(),
+    }
+}
+
+// Where there is none: that does not happen.
+fn no_row() -> Row {
+    Row {
+        item: Item {
+            kind: 0,
+            name: Reference::Absent,
+            type_: 0,
+            value: Value::Nothing,
+        },
+        next: 0,
     }
 }
 
@@ -870,25 +916,12 @@ fn keep_rest(
 {
     let mut at = from;
     let mut pool = start;
-    while at < s.len() {
-        let command = Command::new(tokens, s[at]);
-        let kind = command.0;
-        if kind != Command::ATTRIBUTE {
-            return;
-        }
-        match attribute_at(s, at, false, tokens, table, pool) {
-            ItemRead::Got { item, next } => {
-                keep_item(table, pool, base, item);
-                pool = after_item(pool, item);
-                at = next;
-            }
-            ItemRead::Short(_) => {
-                return;
-            }
-            ItemRead::Refused(_) => {
-                return;
-            }
-        }
+    while is_attribute(s, at, tokens) {
+        let row = row_of(attribute_at(s, at, false, tokens, table, pool));
+        let item = row.item;
+        keep_item(table, pool, base, item);
+        pool = after_item(pool, item);
+        at = row.next;
     }
 }
 
@@ -898,16 +931,11 @@ fn keep(s: &[u8], base: usize, tokens: &[u16; 256], table: &mut [u32], pool: Poo
     requires { ⌜ Keepable base (now s) (event (sound (pool .kept) (now table) (pool .stored)) (pool .names) (now s)) pool (now table) ⌝ }
     ensures { λ _. ⌜ now (table .exit) ≡ sets (now (table .entry)) (2 * pool .names) (pairs base (adds (pool .names) (event (sound (pool .kept) (now (table .entry)) (pool .stored)) (pool .names) (now (s .entry))))) ⌝ }
 {
-    match first_at(s, false, tokens, table, pool) {
-        ItemRead::Got { item, next } => {
-            keep_item(table, pool, base, item);
-            let kind = item.kind;
-            if kind == Command::START_TAG {
-                keep_rest(s, next, base, tokens, table, after_item(pool, item));
-            }
-        }
-        ItemRead::Short(_) => {}
-        ItemRead::Refused(_) => {}
+    let row = row_of(first_at(s, false, tokens, table, pool));
+    let item = row.item;
+    keep_item(table, pool, base, item);
+    if item.kind == Command::START_TAG {
+        keep_rest(s, row.next, base, tokens, table, after_item(pool, item));
     }
 }
 
@@ -1069,26 +1097,13 @@ fn write_rest(
     let mut at = from;
     let mut pool = start;
     let mut to = 8;
-    while at < s.len() {
-        let command = Command::new(tokens, s[at]);
-        let kind = command.0;
-        if kind != Command::ATTRIBUTE {
-            return;
-        }
-        match attribute_at(s, at, false, tokens, table, pool) {
-            ItemRead::Got { item, next } => {
-                put_item(rows, to, pooled, base, table, item);
-                pool = after_item(pool, item);
-                at = next;
-                to += 8;
-            }
-            ItemRead::Short(_) => {
-                return;
-            }
-            ItemRead::Refused(_) => {
-                return;
-            }
-        }
+    while is_attribute(s, at, tokens) {
+        let row = row_of(attribute_at(s, at, false, tokens, table, pool));
+        let item = row.item;
+        put_item(rows, to, pooled, base, table, item);
+        pool = after_item(pool, item);
+        at = row.next;
+        to += 8;
     }
 }
 
@@ -1106,25 +1121,20 @@ fn write(
     requires { ⌜ Writable base (now s) (event (sound (pool .kept) (now table) (pool .stored)) (pool .names) (now s)) pool (now table) (now rows) 0 ⌝ }
     ensures { λ _. ⌜ now (rows .exit) ≡ sets (now (rows .entry)) 0 (words pooled base (now (table .entry)) (event (sound (pool .kept) (now (table .entry)) (pool .stored)) (pool .names) (now (s .entry)))) ⌝ }
 {
-    match first_at(s, false, tokens, table, pool) {
-        ItemRead::Got { item, next } => {
-            put_item(rows, 0, pooled, base, table, item);
-            let kind = item.kind;
-            if kind == Command::START_TAG {
-                write_rest(
-                    s,
-                    next,
-                    pooled,
-                    base,
-                    tokens,
-                    table,
-                    after_item(pool, item),
-                    rows,
-                );
-            }
-        }
-        ItemRead::Short(_) => {}
-        ItemRead::Refused(_) => {}
+    let row = row_of(first_at(s, false, tokens, table, pool));
+    let item = row.item;
+    put_item(rows, 0, pooled, base, table, item);
+    if item.kind == Command::START_TAG {
+        write_rest(
+            s,
+            row.next,
+            pooled,
+            base,
+            tokens,
+            table,
+            after_item(pool, item),
+            rows,
+        );
     }
 }
 

@@ -6,7 +6,8 @@ use mathlib.Core.Bool.{Bool}
 use native.Mathlib.Omega.{arith}
 use mathlib.Core.Path.{sym, ap, _∙_}
 use Rattle.scanner.specs.Answers.{itemReadOf}
-use Rattle.scanner.proofs.Walk.{soundOf, first-fits, first-short, first-refused, ended-first}
+use Rattle.scanner.specs.Turn.{soundOf}
+use Rattle.scanner.proofs.Walk.{first-fits, first-short, first-refused, ended-first}
 use borrow.Author.Needs.{needs}
 use Rattle.scanner.proofs.select.take_event.Statement.{statement}
 use Rattle.scanner.proofs.select.take_event.Tie as tie

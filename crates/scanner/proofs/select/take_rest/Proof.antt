@@ -16,7 +16,8 @@ use Rattle.grammar.specs.Scan.{itemWords}
 use Rattle.slice_spec.specs.Queries.{Words, concat}
 use Rattle.grammar.specs.Turn.{attribute-fits, rest, rest-more, rest-other, rest-end}
 use Rattle.grammar.specs.Rows.{command-is}
-use Rattle.scanner.proofs.Walk.{soundOf, ended-attribute, never-short, never-refused}
+use Rattle.scanner.specs.Turn.{soundOf}
+use Rattle.scanner.proofs.Walk.{ended-attribute, never-short, never-refused}
 use Rattle.scanner.specs.Select.{rowsOf, taken}
 use Rattle.scanner.proofs.select.take_rest.Statement.{statement}
 use Rattle.scanner.proofs.select.take_rest.Tie as tie
