@@ -12,6 +12,7 @@ use crate::{library, AbxError, Result};
 type Answer = [usize; 4];
 
 const DONE: usize = 0;
+#[cfg(feature = "queries")]
 const FOUND: usize = 0;
 const END: usize = 1;
 const REFUSED: usize = 2;
@@ -27,6 +28,7 @@ fn refusal(answer: Answer) -> AbxError {
     }
 }
 
+#[inline]
 fn in_range(holds: bool) -> Result<()> {
     if holds {
         Ok(())
@@ -45,6 +47,7 @@ pub(crate) struct Place {
 }
 
 impl Place {
+    #[inline]
     fn checked(self, document: &[u8], pool: &[u32]) -> Result<Place> {
         in_range(self.at <= document.len() && self.names <= pool.len() / 2)?;
         Ok(self)
@@ -59,6 +62,7 @@ pub(crate) fn slice_create(document: &[u8], pool: &[u32]) -> Result<Place> {
 }
 
 /// How many rows were written, and the place after the event; none at the end.
+#[inline]
 pub(crate) fn slice_next(
     place: Place,
     document: &[u8],
@@ -145,6 +149,7 @@ pub(crate) struct State([usize; 6]);
 
 impl State {
     /// How many bytes of the window wait.
+    #[inline]
     pub(crate) fn waiting(&self) -> usize {
         self.0[1].saturating_sub(self.0[0])
     }
@@ -153,17 +158,15 @@ impl State {
         self.0[5] == 1
     }
 
-    fn checked(self, window: &[u8], pool: &[u32], store: &[u8]) -> Result<State> {
+    #[inline]
+    fn is_right(&self, window: &[u8], pool: &[u32], store: &[u8]) -> bool {
         let [start, end, names, bytes, header, finished] = self.0;
-        in_range(
-            start <= end
-                && end <= window.len()
-                && names <= pool.len() / 2
-                && bytes <= store.len()
-                && header <= 1
-                && finished <= 1,
-        )?;
-        Ok(self)
+        start <= end
+            && end <= window.len()
+            && names <= pool.len() / 2
+            && bytes <= store.len()
+            && header <= 1
+            && finished <= 1
     }
 }
 
@@ -171,12 +174,15 @@ pub(crate) fn stream_create(window: &[u8], pool: &[u32], store: &[u8]) -> Result
     // Words that no reader has, so that a state that was not written is seen.
     let mut state = State([usize::MAX; 6]);
     match library::abx_stream_create(&mut state.0, window, pool, store) {
-        [DONE, _, _, _] => state.checked(window, pool, store),
+        [DONE, _, _, _] => {
+            in_range(state.is_right(window, pool, store))?;
+            Ok(state)
+        }
         answer => Err(refusal(answer)),
     }
 }
 
-/// How many bytes of the chunk were taken. Here and below the new state is stored only where it is in range.
+/// How many bytes of the chunk were taken. Here and below a new state that is not in range is an error, and the library itself refuses it from then on.
 pub(crate) fn stream_feed(
     state: &mut State,
     window: &mut [u8],
@@ -184,11 +190,9 @@ pub(crate) fn stream_feed(
     store: &[u8],
     chunk: &[u8],
 ) -> Result<usize> {
-    let mut new = *state;
-    match library::abx_stream_feed(&mut new.0, window, pool, store, chunk) {
+    match library::abx_stream_feed(&mut state.0, window, pool, store, chunk) {
         [DONE, taken, _, _] => {
-            in_range(taken <= chunk.len())?;
-            *state = new.checked(window, pool, store)?;
+            in_range(taken <= chunk.len() && state.is_right(window, pool, store))?;
             Ok(taken)
         }
         answer => Err(refusal(answer)),
@@ -201,13 +205,8 @@ pub(crate) fn stream_finish(
     pool: &[u32],
     store: &[u8],
 ) -> Result<()> {
-    let mut new = *state;
-    match library::abx_stream_finish(&mut new.0, window, pool, store) {
-        [DONE, _, _, _] => {
-            in_range(new.is_finished())?;
-            *state = new.checked(window, pool, store)?;
-            Ok(())
-        }
+    match library::abx_stream_finish(&mut state.0, window, pool, store) {
+        [DONE, _, _, _] => in_range(state.is_finished() && state.is_right(window, pool, store)),
         answer => Err(refusal(answer)),
     }
 }
@@ -219,6 +218,7 @@ pub(crate) enum Stepped {
     End,
 }
 
+#[inline]
 pub(crate) fn stream_next(
     state: &mut State,
     window: &[u8],
@@ -226,24 +226,21 @@ pub(crate) fn stream_next(
     store: &mut [u8],
     rows: &mut [u32],
 ) -> Result<Stepped> {
-    let mut new = *state;
-    let stepped = match library::abx_stream_next(&mut new.0, window, pool, store, rows) {
+    let waiting = state.waiting();
+    let (stepped, right) = match library::abx_stream_next(&mut state.0, window, pool, store, rows) {
         [DONE, count, _, _] => {
             // An event takes a byte at least, so that reading ends.
-            in_range(count <= rows.len() / ROW && new.waiting() < state.waiting())?;
-            Stepped::Event(count)
+            let right = count <= rows.len() / ROW && state.waiting() < waiting;
+            (Stepped::Event(count), right)
         }
-        [NEED_MORE, ..] => {
-            in_range(!new.is_finished())?;
-            Stepped::NeedMore
-        }
+        [NEED_MORE, ..] => (Stepped::NeedMore, !state.is_finished()),
         [END, ..] => {
-            in_range(new.is_finished() && new.waiting() == 0)?;
-            Stepped::End
+            let right = state.is_finished() && state.waiting() == 0;
+            (Stepped::End, right)
         }
         answer => return Err(refusal(answer)),
     };
-    *state = new.checked(window, pool, store)?;
+    in_range(right && state.is_right(window, pool, store))?;
     Ok(stepped)
 }
 
@@ -273,20 +270,32 @@ pub(crate) fn writer_create(output: &mut [u8], pool: &[u32]) -> Result<Written> 
     Written::checked(answer, output, pool)
 }
 
-/// Writes a list, or, where `single` is asked for, exactly one event.
-pub(crate) fn write(
-    single: bool,
+/// A call of the writer.
+pub(crate) type Write =
+    fn(Written, store: &[u8], rows: &[u32], output: &mut [u8], pool: &mut [u32]) -> Result<Written>;
+
+/// Writes exactly one event.
+pub(crate) fn write_event(
     written: Written,
     store: &[u8],
     rows: &[u32],
     output: &mut [u8],
     pool: &mut [u32],
 ) -> Result<Written> {
-    let write = if single {
-        library::abx_write_event
-    } else {
-        library::abx_write_events
-    };
-    let answer = write(written.bytes, written.names, store, &[], rows, output, pool);
+    let Written { bytes, names } = written;
+    let answer = library::abx_write_event(bytes, names, store, &[], rows, output, pool);
+    Written::checked(answer, output, pool)
+}
+
+/// Writes a list.
+pub(crate) fn write_events(
+    written: Written,
+    store: &[u8],
+    rows: &[u32],
+    output: &mut [u8],
+    pool: &mut [u32],
+) -> Result<Written> {
+    let Written { bytes, names } = written;
+    let answer = library::abx_write_events(bytes, names, store, &[], rows, output, pool);
     Written::checked(answer, output, pool)
 }

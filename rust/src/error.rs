@@ -2,27 +2,31 @@
 
 use std::{fmt, io};
 
+use crate::MAGIC;
+
 /// A [`Result`](std::result::Result) with an [`AbxError`].
 pub type Result<T> = std::result::Result<T, AbxError>;
 
-/// A refusal of the library, by its name and its detail, or what went wrong beside it.
+/// Why a call did not do what it was asked: what is wrong with a document or a value, an error of a source or a sink, or a limit.
 ///
-/// Each refusal has a [`number`](Self::number) from 1 to 19. Where a reader or a writer owns the buffer that a refusal is about, it makes
-/// it longer and tries again: `RowsFull`, `PoolFull` and `NamesFull` are seen only at the library's own limits, `NotRows` and
+/// What the library refuses has a [`number`](Self::number) from 1 to 19. Where a reader or a writer owns the buffer that a refusal is
+/// about, it makes it longer and tries again: `RowsFull`, `PoolFull` and `NamesFull` are seen only at the library's own limits, `NotRows` and
 /// `BadState` not at all.
+///
+/// `Nom`, `Deserialization` and `Xml` are no errors of this crate: they are there so that a `match` that was written for android-abx compiles.
 #[derive(Debug)]
 #[non_exhaustive]
 pub enum AbxError {
-    /// 1: the input ends inside the header.
-    HeaderShort,
-    /// 2: the header is other bytes than [`MAGIC`](crate::MAGIC): these.
-    InvalidMagic([u8; 4]),
-    /// 3: the input ends inside a token, length, index or number.
-    UnexpectedEof,
-    /// 4: the input ends inside a string's bytes.
-    StringShort,
-    /// 5: the input ends inside a blob's bytes.
-    BytesShort,
+    /// 2: the header is other bytes than [`MAGIC`].
+    InvalidMagic {
+        /// [`MAGIC`].
+        expected: [u8; 4],
+        /// The bytes that are there.
+        actual: [u8; 4],
+    },
+    /// The input ends inside something, which the string names: `magic header` (1), `primitive`, which is a token, a length, an index or
+    /// a number (3), `UTF string payload` (4) or `bytes payload` (5).
+    UnexpectedEof(&'static str),
     /// 6: no entry of the pool has this index.
     BadInternedIndex(u16),
     /// 7: a string breaks RFC 3629.
@@ -37,11 +41,16 @@ pub enum AbxError {
     PoolFull,
     /// 12: the names have more bytes than [`MAX_STORE`](crate::MAX_STORE).
     NamesFull,
-    /// 13: an event is longer than the window.
+    /// 13: an event is longer than the window may get.
     WindowFull,
-    /// 14: a string or blob has more than 65,535 bytes: this many.
-    ValueTooLong(usize),
-    /// 15: the document would be longer than [`MAX_OUTPUT`](crate::MAX_OUTPUT).
+    /// 14: a string or blob is too long.
+    ValueTooLong {
+        /// How many bytes it has.
+        len: usize,
+        /// How many it may have: 65,535.
+        max: usize,
+    },
+    /// 15: an event and all names before it have more bytes than [`MAX_OUTPUT`](crate::MAX_OUTPUT).
     OutputFull,
     /// 16: words that form no rows.
     NotRows,
@@ -51,21 +60,36 @@ pub enum AbxError {
     AlreadyFinished,
     /// 19: a count or place outside its buffer.
     BadState,
-    /// A source could not be read.
+    /// A source could not be read, or a sink not be written.
     Io(io::Error),
     /// The library's answer is none that it can give. The library that is linked is not the one that this crate was made for.
     BadAnswer(&'static str),
+    /// Not given.
+    Nom(String),
+    /// Not given.
+    Deserialization(String),
+    /// Not given.
+    Xml(String),
 }
+
+/// What an input ends in, as android-abx names it.
+const HEADER: &str = "magic header";
+const PRIMITIVE: &str = "primitive";
+const STRING: &str = "UTF string payload";
+const BYTES: &str = "bytes payload";
 
 impl AbxError {
     /// A refusal by the two words of an answer.
     pub(crate) fn refused(number: usize, detail: usize) -> AbxError {
         let refusal = match number {
-            1 => AbxError::HeaderShort,
-            2 => AbxError::InvalidMagic((detail as u32).to_be_bytes()),
-            3 => AbxError::UnexpectedEof,
-            4 => AbxError::StringShort,
-            5 => AbxError::BytesShort,
+            1 => AbxError::UnexpectedEof(HEADER),
+            2 => AbxError::InvalidMagic {
+                expected: MAGIC,
+                actual: (detail as u32).to_be_bytes(),
+            },
+            3 => AbxError::UnexpectedEof(PRIMITIVE),
+            4 => AbxError::UnexpectedEof(STRING),
+            5 => AbxError::UnexpectedEof(BYTES),
             6 => AbxError::BadInternedIndex(detail as u16),
             7 => AbxError::InvalidUtf8,
             8 => AbxError::UnknownAttributeType(detail as u8),
@@ -74,7 +98,7 @@ impl AbxError {
             11 => AbxError::PoolFull,
             12 => AbxError::NamesFull,
             13 => AbxError::WindowFull,
-            14 => AbxError::ValueTooLong(detail),
+            14 => AbxError::value_too_long(detail),
             15 => AbxError::OutputFull,
             16 => AbxError::NotRows,
             17 => AbxError::BadSize,
@@ -89,14 +113,22 @@ impl AbxError {
         refusal
     }
 
+    pub(crate) fn value_too_long(len: usize) -> AbxError {
+        let max = u16::MAX.into();
+        AbxError::ValueTooLong { len, max }
+    }
+
     /// The refusal's number, from 1 to 19. None for an error that is no refusal.
     pub fn number(&self) -> Option<u32> {
         Some(match self {
-            AbxError::HeaderShort => 1,
-            AbxError::InvalidMagic(_) => 2,
-            AbxError::UnexpectedEof => 3,
-            AbxError::StringShort => 4,
-            AbxError::BytesShort => 5,
+            AbxError::UnexpectedEof(what) => match *what {
+                HEADER => 1,
+                PRIMITIVE => 3,
+                STRING => 4,
+                BYTES => 5,
+                _ => return None,
+            },
+            AbxError::InvalidMagic { .. } => 2,
             AbxError::BadInternedIndex(_) => 6,
             AbxError::InvalidUtf8 => 7,
             AbxError::UnknownAttributeType(_) => 8,
@@ -105,25 +137,29 @@ impl AbxError {
             AbxError::PoolFull => 11,
             AbxError::NamesFull => 12,
             AbxError::WindowFull => 13,
-            AbxError::ValueTooLong(_) => 14,
+            AbxError::ValueTooLong { .. } => 14,
             AbxError::OutputFull => 15,
             AbxError::NotRows => 16,
             AbxError::BadSize => 17,
             AbxError::AlreadyFinished => 18,
             AbxError::BadState => 19,
-            AbxError::Io(_) | AbxError::BadAnswer(_) => return None,
+            AbxError::Io(_)
+            | AbxError::BadAnswer(_)
+            | AbxError::Nom(_)
+            | AbxError::Deserialization(_)
+            | AbxError::Xml(_) => return None,
         })
     }
 
     /// The refusal's detail as a number; 0 where it has none.
     pub fn detail(&self) -> usize {
         match self {
-            AbxError::InvalidMagic(bytes) => u32::from_be_bytes(*bytes) as usize,
+            AbxError::InvalidMagic { actual, .. } => u32::from_be_bytes(*actual) as usize,
             AbxError::BadInternedIndex(index) => usize::from(*index),
             AbxError::UnknownAttributeType(byte) | AbxError::UnknownCommand(byte) => {
                 usize::from(*byte)
             }
-            AbxError::ValueTooLong(len) => *len,
+            AbxError::ValueTooLong { len, .. } => *len,
             _ => 0,
         }
     }
@@ -132,31 +168,46 @@ impl AbxError {
 impl fmt::Display for AbxError {
     fn fmt(&self, f: &mut fmt::Formatter<'_>) -> fmt::Result {
         match self {
-            AbxError::HeaderShort => write!(f, "the input ends in the header"),
-            AbxError::InvalidMagic(bytes) => write!(f, "no ABX header: {bytes:02x?}"),
-            AbxError::UnexpectedEof => {
-                write!(f, "the input ends in a token, length, index or number")
+            AbxError::InvalidMagic { expected, actual } => write!(
+                f,
+                "this is no ABX document: it begins with {actual:02x?} in place of {expected:02x?}"
+            ),
+            AbxError::UnexpectedEof(HEADER) => write!(f, "the input ends inside the header"),
+            AbxError::UnexpectedEof(PRIMITIVE) => {
+                write!(f, "the input ends inside a token, length, index or number")
             }
-            AbxError::StringShort => write!(f, "the input ends in a string"),
-            AbxError::BytesShort => write!(f, "the input ends in a blob"),
-            AbxError::BadInternedIndex(index) => write!(f, "no name has index {index}"),
+            AbxError::UnexpectedEof(STRING) => write!(f, "the input ends inside a string"),
+            AbxError::UnexpectedEof(BYTES) => write!(f, "the input ends inside a blob"),
+            AbxError::UnexpectedEof(what) => write!(f, "the input ends inside this: {what}"),
+            AbxError::BadInternedIndex(index) => write!(f, "no name has the index {index}"),
             AbxError::InvalidUtf8 => write!(f, "a string is not UTF-8"),
             AbxError::UnknownAttributeType(byte) => {
-                write!(f, "no attribute has type {}", byte >> 4)
+                write!(f, "an attribute has the type {}, which is none", byte >> 4)
             }
-            AbxError::UnknownCommand(command) => write!(f, "command {command} can't stand here"),
-            AbxError::RowsFull => write!(f, "an event has too many attributes"),
-            AbxError::PoolFull => write!(f, "too many names"),
-            AbxError::NamesFull => write!(f, "the names are too long together"),
-            AbxError::WindowFull => write!(f, "an event is longer than the window"),
-            AbxError::ValueTooLong(len) => write!(f, "a value of {len} bytes; 65535 is the most"),
-            AbxError::OutputFull => write!(f, "the document is too long to be written"),
+            AbxError::UnknownCommand(15) => write!(f, "an attribute stands outside a start tag"),
+            AbxError::UnknownCommand(command) => {
+                write!(f, "a token has the command {command}, which is none")
+            }
+            AbxError::RowsFull => write!(f, "an event has more attributes than are taken"),
+            AbxError::PoolFull => write!(f, "there are more names than are taken"),
+            AbxError::NamesFull => write!(f, "all names together are longer than is taken"),
+            AbxError::WindowFull => write!(f, "an event is longer than the window may get"),
+            AbxError::ValueTooLong { len, max } => {
+                write!(f, "a string or blob has {len} bytes, and may have {max}")
+            }
+            AbxError::OutputFull => write!(f, "an event is too long to be written"),
             AbxError::NotRows => write!(f, "words that form no rows"),
             AbxError::BadSize => write!(f, "a document or window of a length that is not taken"),
             AbxError::AlreadyFinished => write!(f, "the input was finished before"),
             AbxError::BadState => write!(f, "a count or place outside its buffer"),
-            AbxError::Io(error) => write!(f, "the source could not be read: {error}"),
+            AbxError::Io(error) => write!(
+                f,
+                "the input could not be read, or the output not be written: {error}"
+            ),
             AbxError::BadAnswer(what) => write!(f, "the library's answer is wrong: {what}"),
+            AbxError::Nom(what) | AbxError::Deserialization(what) | AbxError::Xml(what) => {
+                write!(f, "{what}")
+            }
         }
     }
 }
@@ -179,6 +230,8 @@ impl From<io::Error> for AbxError {
 #[cfg(test)]
 mod tests {
     use super::AbxError;
+    use std::error::Error;
+    use std::io;
 
     #[test]
     fn every_number_has_its_name() {
@@ -186,11 +239,13 @@ mod tests {
             let refusal = AbxError::refused(number, 0);
             assert_eq!(refusal.number(), Some(number as u32));
             assert_eq!(refusal.detail(), 0);
-            assert!(!refusal.to_string().is_empty());
+            assert!(refusal.to_string().len() > 10);
+            assert!(refusal.source().is_none());
         }
         for number in [0, 20, usize::MAX] {
             assert_eq!(AbxError::refused(number, 0).number(), None);
         }
+        assert_eq!(AbxError::UnexpectedEof("elsewhere").number(), None);
     }
 
     #[test]
@@ -201,5 +256,13 @@ mod tests {
         }
         assert_eq!(AbxError::refused(14, 65_536).detail(), 65_536);
         assert_eq!(AbxError::refused(3, 1).number(), None);
+    }
+
+    #[test]
+    fn a_source_is_told() {
+        let error = AbxError::from(io::Error::from(io::ErrorKind::BrokenPipe));
+        let source = error.source().and_then(|source| source.downcast_ref());
+        assert_eq!(source.map(io::Error::kind), Some(io::ErrorKind::BrokenPipe));
+        assert!(error.to_string().contains("broken pipe"));
     }
 }

@@ -1,5 +1,9 @@
 //! What a document consists of.
 
+use std::borrow::Cow;
+
+use crate::{InternedStr, ValueRef};
+
 /// One event of a document. Strings are not escaped.
 #[derive(Debug, Clone, PartialEq, Eq)]
 pub enum Event {
@@ -10,14 +14,14 @@ pub enum Event {
     /// An element starts.
     StartTag {
         /// The element's name.
-        name: String,
+        name: InternedStr,
         /// Its attributes, in the document's order; a name may come more than once.
         attributes: Vec<Attribute>,
     },
     /// An element ends. Whether it is the innermost open one is not checked.
     EndTag {
         /// The element's name.
-        name: String,
+        name: InternedStr,
     },
     /// A text.
     Text(String),
@@ -39,18 +43,23 @@ pub enum Event {
 #[derive(Debug, Clone, PartialEq, Eq)]
 pub struct Attribute {
     /// The name.
-    pub name: String,
+    pub name: InternedStr,
     /// The value.
     pub value: AttributeValue,
 }
 
 impl Attribute {
     /// An attribute of this name and value.
-    pub fn new(name: impl Into<String>, value: AttributeValue) -> Attribute {
+    pub fn new(name: impl Into<InternedStr>, value: AttributeValue) -> Attribute {
         Attribute {
             name: name.into(),
             value,
         }
+    }
+
+    /// The value as text. See [`AttributeValue::as_str`].
+    pub fn as_str(&self) -> Cow<'_, str> {
+        self.value.as_str()
     }
 }
 
@@ -85,20 +94,7 @@ pub enum AttributeValue {
 
 impl PartialEq for AttributeValue {
     fn eq(&self, other: &AttributeValue) -> bool {
-        use AttributeValue::*;
-        match (self, other) {
-            (Null, Null) => true,
-            (String(a), String(b)) => a == b,
-            (BytesHex(a), BytesHex(b)) | (BytesBase64(a), BytesBase64(b)) => a == b,
-            (Int(a), Int(b)) => a == b,
-            (IntHex(a), IntHex(b)) => a == b,
-            (Long(a), Long(b)) => a == b,
-            (LongHex(a), LongHex(b)) => a == b,
-            (Float(a), Float(b)) => a.to_bits() == b.to_bits(),
-            (Double(a), Double(b)) => a.to_bits() == b.to_bits(),
-            (Boolean(a), Boolean(b)) => a == b,
-            _ => false,
-        }
+        ValueRef::from(self) == ValueRef::from(other)
     }
 }
 
@@ -140,6 +136,22 @@ accessors! {
 }
 
 impl AttributeValue {
+    /// The value as text, not escaped, as Android renders it.
+    ///
+    /// Null is the empty string. Bytes are hex digits in lower case, or base64 that is filled up. Numbers that stand for hex have a
+    /// sign, as in Java: `IntHex(0xFFFF_FFFF)` is `-1`. A whole float ends in `.0`.
+    ///
+    /// ```
+    /// use abx::AttributeValue;
+    ///
+    /// assert_eq!(AttributeValue::LongHex(0x2A).as_str(), "2a");
+    /// assert_eq!(AttributeValue::Float(-2.0).as_str(), "-2.0");
+    /// assert_eq!(AttributeValue::BytesBase64(vec![0; 2]).as_str(), "AAA=");
+    /// ```
+    pub fn as_str(&self) -> Cow<'_, str> {
+        ValueRef::from(self).as_str()
+    }
+
     /// The bytes of a [`BytesHex`](Self::BytesHex) or [`BytesBase64`](Self::BytesBase64).
     pub fn as_bytes(&self) -> Option<&[u8]> {
         match self {

@@ -1,8 +1,9 @@
 //! Reads and writes ABX, Android's binary XML.
 //!
 //! The codec itself is a static library whose code is proved; this crate lends it buffers, grows them, and turns its rows
-//! into [`Event`]s. [`AbxParser`] reads a document in memory, [`AbxStreamParser`] takes it in chunks, [`AbxReader`] reads it
-//! from any [`Read`](std::io::Read), and [`AbxWriter`] writes one.
+//! into events. [`AbxParser`] reads a document in memory, [`AbxStreamParser`] reads one from any [`Read`](std::io::Read),
+//! [`AbxPushParser`] is fed by hand, and [`AbxWriter`] writes one to any [`Write`](std::io::Write). Readers give events that own their
+//! strings ([`Event`]), or, several times as fast, events that borrow them ([`EventRef`]).
 //!
 //! ```
 //! use abx::{events_to_abx, AbxParser, Attribute, AttributeValue, Event};
@@ -20,25 +21,34 @@
 
 #![deny(unsafe_code)]
 
+mod borrowed;
 mod buffers;
 mod checked;
+#[allow(unsafe_code)]
+mod cursor;
 mod error;
 mod event;
 #[allow(unsafe_code)]
 mod library;
+#[allow(unsafe_code)]
+mod name;
+mod reading;
 mod rows;
 mod slice;
 mod stream;
+mod text;
 mod writer;
 
-pub use buffers::{MAX_DOCUMENT, MAX_NAMES, MAX_OUTPUT, MAX_STORE, MAX_WINDOW, MIN_WINDOW};
+pub use borrowed::{AttributeRef, Attributes, EventRef, ValueRef};
+pub use buffers::{Sizes, MAX_DOCUMENT, MAX_NAMES, MAX_OUTPUT, MAX_STORE, MAX_WINDOW, MIN_WINDOW};
 pub use error::{AbxError, Result};
 pub use event::{Attribute, AttributeValue, Event};
-pub use slice::AbxParser;
-pub use stream::{AbxReader, AbxStreamParser, Next};
+pub use name::InternedStr;
+pub use slice::{AbxParser, AbxParserOwned};
+pub use stream::{AbxPushParser, AbxStreamParser, Next};
 pub use writer::{events_to_abx, AbxWriter};
 
-// The README's example is compiled with the tests.
+// The README's examples are compiled and run with the tests.
 #[cfg(doctest)]
 #[doc = include_str!("../README.md")]
 struct Readme;

@@ -12,7 +12,8 @@
 // Nobody calls all of them. A function that is not called is not looked for in the library.
 #![allow(dead_code)]
 
-#[link(name = "abx", kind = "static")]
+// Not made part of a Rust library, so that one is built without it.
+#[link(name = "abx", kind = "static", modifiers = "-bundle")]
 extern "C" {}
 
 /// An answer starts out as words that no call gives, so that one that was not written is seen.

@@ -1,13 +1,14 @@
 //! The reader of a document in memory.
 
-use std::iter;
-
-use crate::buffers::Buffers;
-use crate::checked::{self, Place};
-use crate::rows::{self, Stores};
 #[cfg(feature = "queries")]
-use crate::{AbxError, Attribute, AttributeValue};
-use crate::{Event, Result};
+use crate::checked::Query;
+use crate::cursor::SliceCursor;
+use crate::reading::{reading_methods, until_error, Reading};
+#[cfg(doc)]
+use crate::AbxError;
+#[cfg(feature = "queries")]
+use crate::{Attribute, AttributeValue};
+use crate::{Event, EventRef, Result, Sizes};
 
 /// Reads the events of a document in memory.
 ///
@@ -25,10 +26,7 @@ use crate::{Event, Result};
 /// ```
 #[derive(Debug, Clone)]
 pub struct AbxParser<'a> {
-    document: &'a [u8],
-    place: Place,
-    events: usize,
-    buffers: Buffers,
+    cursor: SliceCursor<'a>,
     failed: bool,
 }
 
@@ -37,68 +35,51 @@ impl<'a> AbxParser<'a> {
     ///
     /// # Errors
     ///
-    /// `BadSize` for a document over [`MAX_DOCUMENT`](crate::MAX_DOCUMENT), else `HeaderShort` or `InvalidMagic`.
+    /// `BadSize` for a document over [`MAX_DOCUMENT`](crate::MAX_DOCUMENT), else [`AbxError::UnexpectedEof`] under 4 bytes, or
+    /// [`AbxError::InvalidMagic`].
     pub fn new(document: &'a [u8]) -> Result<AbxParser<'a>> {
-        let buffers = Buffers::new(0);
+        AbxParser::with_sizes(document, Sizes::new())
+    }
+
+    pub(crate) fn with_sizes(document: &'a [u8], sizes: Sizes) -> Result<AbxParser<'a>> {
         Ok(AbxParser {
-            document,
-            place: checked::slice_create(document, &buffers.pool)?,
-            events: 0,
-            buffers,
+            cursor: SliceCursor::new(document, sizes)?,
             failed: false,
         })
     }
 
-    /// The next event, or None at the end of the document. An `EndDocument` is an event, and more may follow it.
-    ///
-    /// # Errors
-    ///
-    /// What is wrong with the event. The reader stays before it, and the event's new names are not kept.
-    pub fn next_event(&mut self) -> Result<Option<Event>> {
-        loop {
-            let Buffers { pool, rows, .. } = &mut self.buffers;
-            match checked::slice_next(self.place, self.document, pool, rows) {
-                Ok(None) => return Ok(None),
-                Ok(Some((count, place))) => {
-                    let event = rows::event(self.stores(), self.buffers.first_rows(count))?;
-                    self.place = place;
-                    self.events += 1;
-                    return Ok(Some(event));
-                }
-                Err(refusal) => self.buffers.grow_for(refusal)?,
-            }
-        }
-    }
-
-    /// All events that are left.
-    ///
-    /// # Errors
-    ///
-    /// The first error. The events before it were consumed.
-    pub fn collect_events(&mut self) -> Result<Vec<Event>> {
-        iter::from_fn(|| self.next_event().transpose()).collect()
-    }
-
     /// Whether all of the document was read.
     pub fn is_empty(&self) -> bool {
-        self.place.at == self.document.len()
+        self.position() == self.cursor.document().len()
     }
 
     /// How many bytes of the document were read, those of the header included.
     pub fn position(&self) -> usize {
-        self.place.at
+        self.cursor.at()
     }
 
     /// How many events were read, by this reader's queries too.
     pub fn events_read(&self) -> usize {
-        self.events
+        self.cursor.events()
     }
 
-    fn stores(&self) -> Stores<'a> {
-        Stores {
-            first: self.document,
-            second: &[],
-        }
+    reading_methods!();
+}
+
+impl Reading for AbxParser<'_> {
+    #[inline]
+    fn advance(&mut self) -> Result<bool> {
+        self.cursor.advance()
+    }
+
+    #[inline]
+    fn event(&self) -> Option<EventRef<'_>> {
+        self.cursor.event()
+    }
+
+    #[inline]
+    fn owned(&mut self) -> Result<Option<Event>> {
+        self.cursor.owned()
     }
 }
 
@@ -113,8 +94,8 @@ impl AbxParser<'_> {
     /// What is wrong with an event before. The reader stays before that event.
     pub fn find_attribute(&mut self, element: &str, attr: &str) -> Result<Option<AttributeValue>> {
         let mut found = vec![];
-        let query = checked::Query::FindAttribute(element.as_bytes(), attr.as_bytes());
-        self.ask(query, &mut found, rows::values)?;
+        let query = Query::FindAttribute(element.as_bytes(), attr.as_bytes());
+        self.cursor.values(query, &mut found)?;
         Ok(found.pop())
     }
 
@@ -125,8 +106,8 @@ impl AbxParser<'_> {
     /// What is wrong with an event before. The reader stays before that event.
     pub fn attributes_of(&mut self, element: &str) -> Result<Option<Vec<Attribute>>> {
         let mut found = vec![];
-        let query = checked::Query::AttributesOf(element.as_bytes());
-        self.ask(query, &mut found, rows::tags)?;
+        let query = Query::AttributesOf(element.as_bytes());
+        self.cursor.tags(query, &mut found)?;
         Ok(found.pop())
     }
 
@@ -156,8 +137,8 @@ impl AbxParser<'_> {
         attr: &str,
         found: &mut Vec<AttributeValue>,
     ) -> Result<()> {
-        let query = checked::Query::FindAllAttributes(element.as_bytes(), attr.as_bytes());
-        self.ask(query, found, rows::values)
+        let query = Query::FindAllAttributes(element.as_bytes(), attr.as_bytes());
+        self.cursor.values(query, found)
     }
 
     /// The attributes of each such element that is left, past every `EndDocument`.
@@ -181,30 +162,8 @@ impl AbxParser<'_> {
         element: &str,
         found: &mut Vec<Vec<Attribute>>,
     ) -> Result<()> {
-        let query = checked::Query::AllAttributesOf(element.as_bytes());
-        self.ask(query, found, rows::tags)
-    }
-
-    // A refused query keeps its rows and its place, so it goes on from there when a buffer was too short.
-    fn ask<T>(
-        &mut self,
-        query: checked::Query,
-        found: &mut Vec<T>,
-        read: fn(Stores, &[u32], &mut Vec<T>) -> Result<()>,
-    ) -> Result<()> {
-        loop {
-            let Buffers { pool, rows, .. } = &mut self.buffers;
-            let reached = checked::query(query, self.place, self.document, pool, rows)?;
-            read(self.stores(), self.buffers.first_rows(reached.rows), found)?;
-            self.place = reached.place;
-            self.events += reached.events;
-            match reached.ended {
-                Ok(_) => return Ok(()),
-                // The rows are free again.
-                Err(AbxError::RowsFull) if reached.rows > 0 => {}
-                Err(refusal) => self.buffers.grow_for(refusal)?,
-            }
-        }
+        let query = Query::AllAttributesOf(element.as_bytes());
+        self.cursor.tags(query, found)
     }
 }
 
@@ -212,20 +171,41 @@ impl Iterator for AbxParser<'_> {
     type Item = Result<Event>;
 
     fn next(&mut self) -> Option<Result<Event>> {
-        until_error(self, |reader| &mut reader.failed, AbxParser::next_event)
+        until_error(self, |reader| &mut reader.failed)
     }
 }
 
-/// What a reader gives as an iterator: its next event, and nothing after an error.
-pub(crate) fn until_error<R>(
-    reader: &mut R,
-    failed: fn(&mut R) -> &mut bool,
-    next_event: fn(&mut R) -> Result<Option<Event>>,
-) -> Option<Result<Event>> {
-    if *failed(reader) {
-        return None;
+/// A document that owns its bytes, and gives readers of them.
+///
+/// ```
+/// use abx::{AbxParserOwned, Event};
+///
+/// let document = AbxParserOwned::new(b"ABX\0\x10".to_vec())?;
+/// assert_eq!(document.parser()?.next_event()?, Some(Event::StartDocument));
+/// # Ok::<(), abx::AbxError>(())
+/// ```
+#[derive(Debug, Clone)]
+pub struct AbxParserOwned {
+    document: Vec<u8>,
+}
+
+impl AbxParserOwned {
+    /// A document whose header is right.
+    ///
+    /// # Errors
+    ///
+    /// Those of [`AbxParser::new`].
+    pub fn new(document: Vec<u8>) -> Result<AbxParserOwned> {
+        AbxParser::new(&document)?;
+        Ok(AbxParserOwned { document })
     }
-    let next = next_event(reader);
-    *failed(reader) = next.is_err();
-    next.transpose()
+
+    /// A reader at the document's first event.
+    ///
+    /// # Errors
+    ///
+    /// None: the header was looked at before.
+    pub fn parser(&self) -> Result<AbxParser<'_>> {
+        AbxParser::new(&self.document)
+    }
 }

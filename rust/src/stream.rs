@@ -1,19 +1,17 @@
-//! The reader of a document that comes in chunks.
+//! The readers of a document that comes in chunks: one is fed by hand, the other reads a source.
 
 use std::io::{self, Read};
-use std::iter;
 
-use crate::buffers::{Buffers, MAX_WINDOW};
-use crate::checked::{self, State, Stepped};
-use crate::rows::{self, Stores};
-use crate::slice::until_error;
-use crate::{AbxError, Event, Result};
+use crate::checked::Stepped;
+use crate::cursor::ChunkCursor;
+use crate::reading::{reading_methods, until_error, Reading};
+use crate::{AbxError, Attribute, AttributeValue, Event, EventRef, Result, Sizes, MAGIC};
 
-/// What a chunk reader answers.
-#[derive(Debug, Clone, PartialEq, Eq)]
-pub enum Next {
+/// What a reader that is fed answers.
+#[derive(Debug, Clone, Copy, PartialEq, Eq)]
+pub enum Next<E = Event> {
     /// An event.
-    Event(Event),
+    Event(E),
     /// No whole event waits: feed more, or finish.
     NeedMore,
     /// The input was finished, and all of it read.
@@ -26,9 +24,9 @@ pub enum Next {
 /// finish, since more attributes might follow.
 ///
 /// ```
-/// use abx::{AbxStreamParser, Event, Next};
+/// use abx::{AbxPushParser, Event, Next};
 ///
-/// let mut parser = AbxStreamParser::new()?;
+/// let mut parser = AbxPushParser::new()?;
 /// assert_eq!(parser.feed(b"ABX")?, 3);
 /// assert_eq!(parser.next_event()?, Next::NeedMore);
 /// assert_eq!(parser.feed(b"\0\x10")?, 2);
@@ -38,47 +36,44 @@ pub enum Next {
 /// # Ok::<(), abx::AbxError>(())
 /// ```
 #[derive(Debug, Clone)]
-pub struct AbxStreamParser {
-    state: State,
-    window: Vec<u8>,
-    buffers: Buffers,
+pub struct AbxPushParser {
+    cursor: ChunkCursor,
 }
 
-impl AbxStreamParser {
-    /// A reader with the longest window, [`MAX_WINDOW`]: it takes every event that any window takes.
+impl AbxPushParser {
+    /// A reader whose window grows up to [`MAX_WINDOW`](crate::MAX_WINDOW), when an event does not fit. It takes every event that any
+    /// window takes.
     ///
     /// # Errors
     ///
     /// None that the library gives for these buffers.
-    pub fn new() -> Result<AbxStreamParser> {
-        AbxStreamParser::with_window(MAX_WINDOW)
+    pub fn new() -> Result<AbxPushParser> {
+        AbxPushParser::with_sizes(Sizes::new())
     }
 
-    /// A reader with a window of so many bytes. It takes events that fit the window, a start tag together with the token after it;
-    /// a longer one is refused `WindowFull`.
+    /// A reader with a window of so many bytes, which stays. It takes events that fit the window, a start tag together with the token
+    /// after it; a longer one is refused `WindowFull`.
     ///
     /// # Errors
     ///
-    /// `BadSize` for a window under [`MIN_WINDOW`](crate::MIN_WINDOW) or over [`MAX_WINDOW`].
-    pub fn with_window(len: usize) -> Result<AbxStreamParser> {
-        // One byte over the limit is refused like any more, which need not be there.
-        let window = vec![0; len.min(MAX_WINDOW + 1)];
-        let buffers = Buffers::new(1024);
-        Ok(AbxStreamParser {
-            state: checked::stream_create(&window, &buffers.pool, &buffers.store)?,
-            window,
-            buffers,
-        })
+    /// `BadSize` for a window under [`MIN_WINDOW`](crate::MIN_WINDOW) or over [`MAX_WINDOW`](crate::MAX_WINDOW).
+    pub fn with_window(len: usize) -> Result<AbxPushParser> {
+        AbxPushParser::with_sizes(Sizes::new().window(len).max_window(len))
     }
 
-    /// Appends the first bytes of a chunk to those that wait, as many as the window has room for, and says how many.
+    pub(crate) fn with_sizes(sizes: Sizes) -> Result<AbxPushParser> {
+        let cursor = ChunkCursor::new(sizes)?;
+        Ok(AbxPushParser { cursor })
+    }
+
+    /// Appends the first bytes of a chunk to those that wait, as many as the window has room for, and says how many. None are taken
+    /// only where the window is full: ask for the next event then.
     ///
     /// # Errors
     ///
     /// `AlreadyFinished` after a finish.
     pub fn feed(&mut self, chunk: &[u8]) -> Result<usize> {
-        let Buffers { pool, store, .. } = &self.buffers;
-        checked::stream_feed(&mut self.state, &mut self.window, pool, store, chunk)
+        self.cursor.feed(chunk)
     }
 
     /// Says that no more bytes will come.
@@ -87,8 +82,7 @@ impl AbxStreamParser {
     ///
     /// `AlreadyFinished` after a finish.
     pub fn finish(&mut self) -> Result<()> {
-        let Buffers { pool, store, .. } = &self.buffers;
-        checked::stream_finish(&mut self.state, &self.window, pool, store)
+        self.cursor.finish()
     }
 
     /// The next event, or why there is none.
@@ -97,51 +91,59 @@ impl AbxStreamParser {
     ///
     /// What is wrong with the header or the event. The reader stays before it, and gives the same error again.
     pub fn next_event(&mut self) -> Result<Next> {
-        loop {
-            let Buffers { pool, rows, store } = &mut self.buffers;
-            match checked::stream_next(&mut self.state, &self.window, pool, store, rows) {
-                Ok(Stepped::Event(count)) => {
-                    let stores = Stores {
-                        first: &self.window,
-                        second: &self.buffers.store,
-                    };
-                    let event = rows::event(stores, self.buffers.first_rows(count))?;
-                    return Ok(Next::Event(event));
-                }
-                Ok(Stepped::NeedMore) => return Ok(Next::NeedMore),
-                Ok(Stepped::End) => return Ok(Next::End),
-                Err(refusal) => self.buffers.grow_for(refusal)?,
-            }
-        }
+        let stepped = self.cursor.advance()?;
+        Ok(answer(stepped, self.cursor.owned()?))
+    }
+
+    /// The same event, borrowed from the reader until its next call: no string is copied.
+    ///
+    /// # Errors
+    ///
+    /// Those of [`next_event`](Self::next_event).
+    pub fn next_ref(&mut self) -> Result<Next<EventRef<'_>>> {
+        let stepped = self.cursor.advance()?;
+        Ok(answer(stepped, self.cursor.event()))
     }
 
     /// How many bytes wait in the window.
     pub fn waiting(&self) -> usize {
-        self.state.waiting()
+        self.cursor.waiting()
     }
 
     /// Whether the input was finished.
     pub fn is_finished(&self) -> bool {
-        self.state.is_finished()
+        self.cursor.is_finished()
     }
 }
 
-/// Reads the events of a document from a source, by an [`AbxStreamParser`].
+fn answer<E>(stepped: Stepped, event: Option<E>) -> Next<E> {
+    match (stepped, event) {
+        (_, Some(event)) => Next::Event(event),
+        (Stepped::NeedMore, None) => Next::NeedMore,
+        (_, None) => Next::End,
+    }
+}
+
+/// Reads the events of a document of any length from a source, by an [`AbxPushParser`].
 ///
-/// As an iterator it gives each event, and ends after the first error.
+/// As an iterator it gives each event, and ends after the first error; [`next_event`](Self::next_event) may be called again, where the
+/// source may give more after an error of its own.
+///
+/// A source is asked for 4 to 64 KiB at a time, and needs no buffer of its own. An event is given as soon as it is read, without
+/// waiting for more.
 ///
 /// ```
-/// use abx::{AbxReader, Event};
+/// use abx::{AbxStreamParser, Event};
 ///
-/// let mut reader = AbxReader::new(&b"ABX\0\x10"[..])?;
-/// assert_eq!(reader.next_event()?, Some(Event::StartDocument));
-/// assert_eq!(reader.next_event()?, None);
+/// let mut parser = AbxStreamParser::new(&b"ABX\0\x10"[..])?;
+/// assert_eq!(parser.next_event()?, Some(Event::StartDocument));
+/// assert_eq!(parser.next_event()?, None);
 /// # Ok::<(), abx::AbxError>(())
 /// ```
 #[derive(Debug)]
-pub struct AbxReader<R: Read> {
-    source: R,
-    parser: AbxStreamParser,
+pub struct AbxStreamParser<R: Read> {
+    reader: R,
+    parser: AbxPushParser,
     chunk: Vec<u8>,
     /// What of the chunk was read and not fed yet.
     from: usize,
@@ -149,23 +151,33 @@ pub struct AbxReader<R: Read> {
     failed: bool,
 }
 
-/// How many bytes a source is asked for at once.
-const CHUNK: usize = 8192;
+/// How many bytes a source is asked for at once: at first, and where it has given as many each time.
+const CHUNK: usize = 4096;
+const LONG_CHUNK: usize = 65_536;
 
-impl<R: Read> AbxReader<R> {
-    /// A reader of this source, with the longest window. Nothing is read yet.
+impl<R: Read> AbxStreamParser<R> {
+    /// A reader of this source, from which it reads the header, and what comes with it.
     ///
     /// # Errors
     ///
-    /// As [`AbxStreamParser::new`].
-    pub fn new(source: R) -> Result<AbxReader<R>> {
-        Ok(AbxReader::with_parser(source, AbxStreamParser::new()?))
+    /// [`AbxError::Io`] where the source can't be read, [`AbxError::UnexpectedEof`] where it has under 4 bytes, or
+    /// [`AbxError::InvalidMagic`].
+    pub fn new(reader: R) -> Result<AbxStreamParser<R>> {
+        AbxStreamParser::with_sizes(reader, Sizes::new())
     }
 
-    /// The same by a chunk reader that was made before, and may have been fed.
-    pub fn with_parser(source: R, parser: AbxStreamParser) -> AbxReader<R> {
-        AbxReader {
-            source,
+    pub(crate) fn with_sizes(reader: R, sizes: Sizes) -> Result<AbxStreamParser<R>> {
+        let parser = AbxPushParser::with_sizes(sizes)?;
+        let mut parser = AbxStreamParser::with_parser(reader, parser);
+        parser.read_header()?;
+        Ok(parser)
+    }
+
+    /// A reader of this source that goes on with a parser that was made before, and may have been fed. Nothing is read yet: what is wrong with
+    /// the header, the first event's call tells.
+    pub fn with_parser(reader: R, parser: AbxPushParser) -> AbxStreamParser<R> {
+        AbxStreamParser {
+            reader,
             parser,
             chunk: vec![0; CHUNK],
             from: 0,
@@ -174,43 +186,41 @@ impl<R: Read> AbxReader<R> {
         }
     }
 
-    /// The next event, or None at the end of the source.
-    ///
-    /// # Errors
-    ///
-    /// What is wrong with the header or the event, or the source's own error; after that it may be called again.
-    pub fn next_event(&mut self) -> Result<Option<Event>> {
-        loop {
-            match self.parser.next_event()? {
-                Next::Event(event) => return Ok(Some(event)),
-                Next::End => return Ok(None),
-                Next::NeedMore => self.refill()?,
-            }
-        }
-    }
-
-    /// All events that are left.
-    ///
-    /// # Errors
-    ///
-    /// The first error. The events before it were consumed.
-    pub fn collect_events(&mut self) -> Result<Vec<Event>> {
-        iter::from_fn(|| self.next_event().transpose()).collect()
-    }
+    reading_methods!();
 
     /// The source. Bytes that were read and are not part of an event yet are lost.
     pub fn into_inner(self) -> R {
-        self.source
+        self.reader
+    }
+
+    /// The header alone is fed first, so that it is looked at, and no event is read.
+    fn read_header(&mut self) -> Result<()> {
+        while self.to < MAGIC.len() {
+            let count = self.read()?;
+            if count == 0 {
+                break;
+            }
+        }
+        let header = self.chunk.get(..self.to.min(MAGIC.len()));
+        self.from = self.parser.feed(header.unwrap_or(&[]))?;
+        if self.to < MAGIC.len() {
+            self.parser.finish()?;
+        }
+        match self.parser.cursor.advance()? {
+            Stepped::NeedMore => Ok(()),
+            _ => Err(AbxError::BadAnswer("an event of a header alone")),
+        }
     }
 
     fn refill(&mut self) -> Result<()> {
         if self.from == self.to {
-            let count = self.read()?;
-            if count == 0 {
+            if self.to == self.chunk.len() && self.to < LONG_CHUNK {
+                self.chunk = vec![0; 2 * self.to];
+            }
+            (self.from, self.to) = (0, 0);
+            if self.read()? == 0 {
                 return self.parser.finish();
             }
-            // A source may say more than it was asked for.
-            (self.from, self.to) = (0, count.min(self.chunk.len()));
         }
         let chunk = self.chunk.get(self.from..self.to).unwrap_or(&[]);
         let taken = self.parser.feed(chunk)?;
@@ -222,20 +232,139 @@ impl<R: Read> AbxReader<R> {
         Ok(())
     }
 
+    /// Appends to the chunk, and says how many bytes.
     fn read(&mut self) -> Result<usize> {
+        let room = self.chunk.get_mut(self.to..).unwrap_or(&mut []);
         loop {
-            match self.source.read(&mut self.chunk) {
+            match self.reader.read(room) {
                 Err(error) if error.kind() == io::ErrorKind::Interrupted => {}
-                read => return Ok(read?),
+                read => {
+                    // A source may say more than it was asked for.
+                    let count = read?.min(room.len());
+                    self.to += count;
+                    return Ok(count);
+                }
             }
         }
     }
 }
 
-impl<R: Read> Iterator for AbxReader<R> {
+impl<R: Read> Reading for AbxStreamParser<R> {
+    #[inline]
+    fn advance(&mut self) -> Result<bool> {
+        loop {
+            match self.parser.cursor.advance()? {
+                Stepped::Event(_) => return Ok(true),
+                Stepped::End => return Ok(false),
+                Stepped::NeedMore => self.refill()?,
+            }
+        }
+    }
+
+    #[inline]
+    fn event(&self) -> Option<EventRef<'_>> {
+        self.parser.cursor.event()
+    }
+
+    #[inline]
+    fn owned(&mut self) -> Result<Option<Event>> {
+        self.parser.cursor.owned()
+    }
+}
+
+/// Queries. Each goes on from where the reader stands, and consumes the events that it looks at.
+impl<R: Read> AbxStreamParser<R> {
+    /// The value of the first attribute of this name, on the next such element that has it. None where an `EndDocument` or the end of
+    /// the input comes first.
+    ///
+    /// # Errors
+    ///
+    /// The first error. The events before it were consumed.
+    pub fn find_attribute(&mut self, element: &str, attr: &str) -> Result<Option<AttributeValue>> {
+        while self.advance()? {
+            match self.event() {
+                Some(EventRef::StartTag { name, attributes }) if name == element => {
+                    if let Some(value) = attributes.get(attr) {
+                        return Ok(Some(value.to_value()));
+                    }
+                }
+                Some(EventRef::EndDocument) => break,
+                _ => {}
+            }
+        }
+        Ok(None)
+    }
+
+    /// The attributes of the next such element. None where an `EndDocument` or the end of the input comes first.
+    ///
+    /// # Errors
+    ///
+    /// The first error. The events before it were consumed.
+    pub fn attributes_of(&mut self, element: &str) -> Result<Option<Vec<Attribute>>> {
+        while self.advance()? {
+            if let Some(attributes) = self.attributes_if(element) {
+                return Ok(Some(attributes));
+            }
+            if self.event() == Some(EventRef::EndDocument) {
+                break;
+            }
+        }
+        Ok(None)
+    }
+
+    /// The values of all attributes of this name on all such elements that are left, past every `EndDocument`.
+    ///
+    /// # Errors
+    ///
+    /// The first error. The events before it were consumed, and what was found in them is lost.
+    pub fn find_all_attributes(
+        &mut self,
+        element: &str,
+        attr: &str,
+    ) -> Result<Vec<AttributeValue>> {
+        let mut found = vec![];
+        while self.advance()? {
+            match self.event() {
+                Some(EventRef::StartTag { name, attributes }) if name == element => {
+                    let named = attributes.filter(|attribute| attribute.name == attr);
+                    found.extend(named.map(|attribute| attribute.value.to_value()));
+                }
+                _ => {}
+            }
+        }
+        Ok(found)
+    }
+
+    /// The attributes of each such element that is left, past every `EndDocument`.
+    ///
+    /// # Errors
+    ///
+    /// The first error. The events before it were consumed, and what was found in them is lost.
+    pub fn all_attributes_of(&mut self, element: &str) -> Result<Vec<Vec<Attribute>>> {
+        let mut found = vec![];
+        while self.advance()? {
+            found.extend(self.attributes_if(element));
+        }
+        Ok(found)
+    }
+
+    /// The attributes of the tag that was read last, if it has this name.
+    fn attributes_if(&mut self, element: &str) -> Option<Vec<Attribute>> {
+        match self.event() {
+            Some(EventRef::StartTag { name, .. }) if name == element => {}
+            _ => return None,
+        }
+        match self.owned() {
+            Ok(Some(Event::StartTag { attributes, .. })) => Some(attributes),
+            _ => None,
+        }
+    }
+}
+
+impl<R: Read> Iterator for AbxStreamParser<R> {
     type Item = Result<Event>;
 
     fn next(&mut self) -> Option<Result<Event>> {
-        until_error(self, |reader| &mut reader.failed, AbxReader::next_event)
+        until_error(self, |reader| &mut reader.failed)
     }
 }

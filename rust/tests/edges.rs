@@ -2,7 +2,7 @@
 
 mod common;
 
-use abx::{AbxError, AbxParser, AbxStreamParser, Attribute, AttributeValue, Event, Next};
+use abx::{AbxError, AbxParser, AbxPushParser, Attribute, AttributeValue, Event, Next};
 use common::{bytes, document, read, tag};
 
 #[track_caller]
@@ -24,7 +24,10 @@ fn headers() {
     gives(&document(""), &[]);
     assert!(matches!(
         AbxParser::new(b"PK\x03\x04"),
-        Err(AbxError::InvalidMagic([b'P', b'K', 3, 4]))
+        Err(AbxError::InvalidMagic {
+            expected: abx::MAGIC,
+            actual: [b'P', b'K', 3, 4]
+        })
     ));
 }
 
@@ -107,7 +110,7 @@ fn attributes() {
 
 #[test]
 fn a_start_tag_ends_at_the_next_token_or_at_the_finish() {
-    let mut parser = AbxStreamParser::new().unwrap();
+    let mut parser = AbxPushParser::new().unwrap();
     let document = document("32 FFFF 0001 70");
     assert_eq!(parser.feed(&document).unwrap(), document.len());
     assert_eq!(parser.next_event().unwrap(), Next::NeedMore);

@@ -30,7 +30,7 @@ fn lists() {
         let document = events_to_abx(&events).unwrap();
         assert_eq!(read(&document), (events.clone(), None));
         // One by one the same bytes come out, and from a second reading as well.
-        let mut writer = AbxWriter::new().unwrap();
+        let mut writer = AbxWriter::new(vec![]).unwrap();
         for event in &events {
             writer.write_event(event).unwrap();
         }
@@ -82,7 +82,7 @@ fn long_lists_are_written_in_parts() {
             &name,
             vec![Attribute::new("a", abx::AttributeValue::Int(i))],
         ));
-        events.push(Event::EndTag { name });
+        events.push(Event::EndTag { name: name.into() });
     }
     let document = events_to_abx(&events).unwrap();
     assert_eq!(by_slice(&document), (events.clone(), None));

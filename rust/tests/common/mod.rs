@@ -2,7 +2,7 @@
 #![allow(dead_code)]
 
 use abx::{
-    AbxError, AbxParser, AbxReader, AbxStreamParser, Attribute, AttributeValue, Event, Next,
+    AbxError, AbxParser, AbxPushParser, AbxStreamParser, Attribute, AttributeValue, Event, Next,
 };
 
 /// The events of a document up to its end or to a refusal, which is told by number and detail.
@@ -23,7 +23,41 @@ pub fn by_slice(document: &[u8]) -> Read {
 }
 
 pub fn by_source(document: &[u8]) -> Read {
-    gather(AbxReader::new(document).unwrap())
+    match AbxStreamParser::new(document) {
+        Err(error) => (vec![], Some(told(error))),
+        Ok(parser) => gather(parser),
+    }
+}
+
+/// The same by borrowed events, each made one that owns its strings.
+pub fn by_slice_borrowed(document: &[u8]) -> Read {
+    let mut parser = match AbxParser::new(document) {
+        Err(error) => return (vec![], Some(told(error))),
+        Ok(parser) => parser,
+    };
+    let mut events = vec![];
+    loop {
+        match parser.next_ref() {
+            Ok(Some(event)) => events.push(event.to_event()),
+            Ok(None) => return (events, None),
+            Err(error) => return (events, Some(told(error))),
+        }
+    }
+}
+
+pub fn by_source_borrowed(document: &[u8]) -> Read {
+    let mut parser = match AbxStreamParser::new(document) {
+        Err(error) => return (vec![], Some(told(error))),
+        Ok(parser) => parser,
+    };
+    let mut events = vec![];
+    loop {
+        match parser.next_ref() {
+            Ok(Some(event)) => events.push(event.into()),
+            Ok(None) => return (events, None),
+            Err(error) => return (events, Some(told(error))),
+        }
+    }
 }
 
 fn gather(results: impl Iterator<Item = abx::Result<Event>>) -> Read {
@@ -39,11 +73,20 @@ fn gather(results: impl Iterator<Item = abx::Result<Event>>) -> Read {
 
 /// In chunks of so many bytes, each event taken as soon as it is there.
 pub fn by_chunks(document: &[u8], size: usize, window: usize) -> Read {
-    let mut parser = AbxStreamParser::with_window(window).unwrap();
+    let mut parser = AbxPushParser::with_window(window).unwrap();
     let mut events = vec![];
     let mut rest = document;
     loop {
-        match parser.next_event() {
+        // borrowed and owned in turn
+        let next = match events.len() % 2 {
+            0 => parser.next_event(),
+            _ => parser.next_ref().map(|next| match next {
+                Next::Event(event) => Next::Event(event.to_event()),
+                Next::NeedMore => Next::NeedMore,
+                Next::End => Next::End,
+            }),
+        };
+        match next {
             Ok(Next::Event(event)) => events.push(event),
             Ok(Next::End) => return (events, None),
             Ok(Next::NeedMore) if rest.is_empty() => parser.finish().unwrap(),
@@ -64,6 +107,8 @@ pub fn read(document: &[u8]) -> Read {
         assert_eq!(by_chunks(document, size, 65_536), read, "chunks of {size}");
     }
     assert_eq!(by_source(document), read);
+    assert_eq!(by_slice_borrowed(document), read);
+    assert_eq!(by_source_borrowed(document), read);
     read
 }
 
@@ -78,12 +123,12 @@ pub fn bytes(hex: &str) -> Vec<u8> {
 }
 
 pub fn tag(name: &str, attributes: Vec<Attribute>) -> Event {
-    let name = name.to_owned();
+    let name = name.into();
     Event::StartTag { name, attributes }
 }
 
 pub fn end_tag(name: &str) -> Event {
-    let name = name.to_owned();
+    let name = name.into();
     Event::EndTag { name }
 }
 
