@@ -4,14 +4,15 @@
  * function writes (a pointer without const) overlaps nothing else that it is lent; nobody else writes any of it until it returns.
  *
  * An answer is four words, and is written where answer_len is 4 or more: ABX_DONE and what was asked for; ABX_END; ABX_REFUSED, a
- * refusal's number (1 to 19) and its detail; or ABX_NEED_MORE. A refused call changes nothing else, but for a query, which keeps
- * what it found.
+ * refusal's number (ABX_HEADER_SHORT to ABX_BAD_STATE) and its detail, which is 0 where none is named; or ABX_NEED_MORE. A word of the four that is not
+ * named at a function is 0. Fewer than four are left as they are. A refused call changes nothing else, but for a query, which keeps what it found.
  *
  * Stack: a call that handles one event takes less than 64 KB (abx_write_event where it has at most 1,024 rows); a query, a list, and a
  * longer event less than 600 KB, but where more than 20,480 different names are written, 1.6 MB.
  *
- * A row is eight words: kind; name (source, start, length); type; value (source, a, b). A span's source is 0 for the document, the window
- * or the first store, 1 for the name store or the second store. A pool has two words for a name, and an even length, at most 131,070. */
+ * A row is eight words: kind; name (source, start, length); type; value (source, a, b). A word that its kind or type has no use for is 0. A span's source
+ * is 0 for the document, the window or the first store, 1 for the name store or the second store. A pool has two words for a name, and an even
+ * length, at most 131,070. */
 #ifndef ABX_H
 #define ABX_H
 
@@ -29,6 +30,61 @@ enum { ABX_FOUND = 0 }; /* of a query, in the place of ABX_DONE */
 
 enum { ABX_ROW = 8, ABX_ANSWER = 4, ABX_QUERY_ANSWER = 7, ABX_STATE = 6 };
 
+/* A row's kind: an event, or an attribute of the start tag before it. */
+enum {
+    ABX_START_DOCUMENT = 0,         /* the kind alone */
+    ABX_END_DOCUMENT = 1,           /* the kind alone */
+    ABX_START_TAG = 2,              /* a name */
+    ABX_END_TAG = 3,                /* a name */
+    ABX_TEXT = 4,                   /* this and the next six: ABX_STRING, and a span of a's start and b's length */
+    ABX_CDATA = 5,
+    ABX_ENTITY_REF = 6,
+    ABX_IGNORABLE_WHITESPACE = 7,
+    ABX_PROCESSING_INSTRUCTION = 8,
+    ABX_COMMENT = 9,
+    ABX_DOC_DECL = 10,
+    ABX_ATTRIBUTE = 15              /* a name, a type and a value */
+};
+
+/* A row's type. A string that the document interned is 3 on the wire and ABX_STRING in a row. */
+enum {
+    ABX_NULL = 1,                   /* no value */
+    ABX_STRING = 2,                 /* a span */
+    ABX_BYTES_HEX = 4,              /* a span */
+    ABX_BYTES_BASE64 = 5,           /* a span */
+    ABX_INT = 6,                    /* 32 bits in b */
+    ABX_INT_HEX = 7,                /* 32 bits in b */
+    ABX_LONG = 8,                   /* the high 32 bits in a, the low in b */
+    ABX_LONG_HEX = 9,               /* the high 32 bits in a, the low in b */
+    ABX_FLOAT = 10,                 /* 32 bits in b */
+    ABX_DOUBLE = 11,                /* the high 32 bits in a, the low in b */
+    ABX_BOOLEAN_TRUE = 12,          /* no value */
+    ABX_BOOLEAN_FALSE = 13          /* no value */
+};
+
+/* Why a call was refused. */
+enum {
+    ABX_HEADER_SHORT = 1,           /* the input ends inside the header */
+    ABX_INVALID_MAGIC = 2,          /* the header is other bytes; detail: these, as a number, the first highest */
+    ABX_UNEXPECTED_EOF = 3,         /* the input ends inside a token, length, index or number */
+    ABX_STRING_SHORT = 4,           /* the input ends inside a string's bytes */
+    ABX_BYTES_SHORT = 5,            /* the input ends inside a blob's bytes */
+    ABX_BAD_INTERNED_INDEX = 6,     /* no such name in the pool; detail: the index */
+    ABX_INVALID_UTF8 = 7,           /* a string that is not well-formed UTF-8 */
+    ABX_UNKNOWN_ATTRIBUTE_TYPE = 8, /* an attribute of type 0, 14 or 15; detail: the type times 16 */
+    ABX_UNKNOWN_COMMAND = 9,        /* a command from 11 to 14, or an attribute outside a start tag; detail: the command */
+    ABX_ROWS_FULL = 10,             /* too few whole rows for the event */
+    ABX_POOL_FULL = 11,             /* the pool is too short for the new names */
+    ABX_NAMES_FULL = 12,            /* the name store is too short for the new names' bytes */
+    ABX_WINDOW_FULL = 13,           /* an incomplete event fills the window */
+    ABX_VALUE_TOO_LONG = 14,        /* a string or blob of over 65,535 bytes; detail: its length */
+    ABX_OUTPUT_FULL = 15,           /* the output is too short */
+    ABX_NOT_ROWS = 16,              /* words that form no rows, or a span that ends outside its store */
+    ABX_BAD_SIZE = 17,              /* a lent buffer of a length that no call takes */
+    ABX_ALREADY_FINISHED = 18,      /* a feed or finish after a finish */
+    ABX_BAD_STATE = 19              /* a state's count or place, or a pool pair, outside its buffer */
+};
+
 /* Whether s is well-formed UTF-8. */
 bool abx_is_utf8(const uint8_t *s, size_t s_len);
 
@@ -43,7 +99,7 @@ void abx_slice_next(size_t at, size_t names, const uint8_t *document, size_t doc
                     size_t pool_len, uint32_t *rows, size_t rows_len, size_t *answer, size_t answer_len);
 
 /* Queries answer seven words, where answer_len is 7 or more: FOUND, END (no more to read) or REFUSED; place, names; the events
- * consumed; the rows written; the refusal's number and detail. */
+ * consumed; the rows written; the refusal's number and detail, both 0 where it was not refused. */
 
 /* The first attribute of this name on the next such element that has it. */
 void abx_find_attribute(size_t at, size_t names, const uint8_t *document, size_t document_len, uint32_t *pool,
@@ -66,7 +122,9 @@ void abx_all_attributes_of(size_t at, size_t names, const uint8_t *document, siz
                            size_t pool_len, uint32_t *rows, size_t rows_len, const uint8_t *element,
                            size_t element_len, size_t *answer, size_t answer_len);
 
-/* ---- the chunk reader: its state is six words, start, end, names, bytes, header passed, finished, which each call changes */
+/* ---- the chunk reader: its state is six words, start, end, names, bytes, header passed, finished, which each call changes that is not refused.
+ * The last two are flags: a call writes 0 or 1, and takes any value but 0 as true. Words after the sixth stay as they are. A state of fewer than six
+ * words is left as it is, and refused ABX_BAD_STATE, a creation's too, after ABX_BAD_SIZE. */
 
 /* DONE. A window has 64 to 1,048,576 bytes, a name store at most 16,777,216. */
 void abx_stream_create(size_t *state, size_t state_len, const uint8_t *window, size_t window_len,

@@ -6,8 +6,9 @@ use std::fs;
 use std::io::Write;
 use std::path::Path;
 use std::process::{Command, Stdio};
+use std::thread;
 
-use abx::events_to_abx;
+use abx::{events_to_abx, AbxParser, Event};
 use common::{document, end_tag, tag};
 
 fn names(program: &Path, document: &[u8]) -> (String, bool) {
@@ -16,8 +17,12 @@ fn names(program: &Path, document: &[u8]) -> (String, bool) {
         .stdout(Stdio::piped())
         .spawn()
         .unwrap();
-    child.stdin.take().unwrap().write_all(document).unwrap();
-    let output = child.wait_with_output().unwrap();
+    let mut stdin = child.stdin.take().unwrap();
+    // What it prints is read while it is fed, and it may stop before the end.
+    let output = thread::scope(|scope| {
+        scope.spawn(move || stdin.write_all(document));
+        child.wait_with_output().unwrap()
+    });
     let text = String::from_utf8(output.stdout).unwrap();
     (text, output.status.success())
 }
@@ -67,6 +72,43 @@ fn the_header_declares_what_rust_calls() {
     assert!(header.contains("bool abx_is_utf8(const uint8_t *s, size_t s_len);"));
 }
 
+/// The numbers that a block of `wire` names, each by its name.
+fn named<'a>(wire: &'a str, block: &str) -> Vec<(&'a str, &'a str)> {
+    let (_, rest) = wire.split_once(&format!("impl {block} {{")).unwrap();
+    let (consts, _) = rest.split_once("pub fn").unwrap();
+    let constant = |line: &'a str| {
+        let line = line.trim().strip_prefix("pub const ")?;
+        line.trim_end_matches(';').split_once(": u32 = ")
+    };
+    consts.lines().filter_map(constant).collect()
+}
+
+#[test]
+fn the_header_names_every_number() {
+    let crate_folder = Path::new(env!("CARGO_MANIFEST_DIR"));
+    let wire = fs::read_to_string(crate_folder.join("../crates/wire/src/lib.rt")).unwrap();
+    let header = fs::read_to_string(crate_folder.join("include/abx.h")).unwrap();
+    let entry = |line: &str| {
+        let line = line.trim().strip_prefix("ABX_")?;
+        let (name, rest) = line.split_once(" = ")?;
+        let number = rest.split([',', ' ']).next()?;
+        Some((name.to_owned(), number.to_owned()))
+    };
+    // one a line; those of answers and lengths are several
+    let told: Vec<_> = header.lines().filter_map(entry).collect();
+    let mut wanted = vec![];
+    for (block, count) in [("Command", 12), ("Type", 13), ("Refusal", 19)] {
+        let numbers = named(&wire, block);
+        assert_eq!(numbers.len(), count, "{block}");
+        // a row has no interned strings
+        let in_rows = numbers
+            .iter()
+            .filter(|(name, _)| *name != "STRING_INTERNED");
+        wanted.extend(in_rows.map(|(name, number)| (name.to_string(), number.to_string())));
+    }
+    assert_eq!(told, wanted);
+}
+
 #[test]
 fn example() {
     let compiler = std::env::var("CC").unwrap_or_else(|_| "cc".to_owned());
@@ -98,4 +140,25 @@ fn example() {
     let refused = names(&program, &document("32 FFFF 0001 70 0F 0000"));
     assert_eq!(refused, ("refused 8 0\n".to_owned(), false));
     assert_eq!(names(&program, b"AB"), ("refused 1 0\n".to_owned(), false));
+
+    // A name with a NUL, and a document longer than any buffer.
+    let name = "a\0b";
+    let text = Event::Text("t".repeat(65_535));
+    let mut events = vec![tag(name, vec![])];
+    events.extend(vec![text; 300]);
+    events.push(tag(name, vec![]));
+    let document = events_to_abx(&events).unwrap();
+    assert!(document.len() > abx::MAX_DOCUMENT);
+    let both = format!("{name}\n{name}\n");
+    assert_eq!(names(&program, &document), (both.clone(), true));
+    let cut = names(&program, &document[..document.len() - 4]);
+    assert_eq!(cut, (format!("{name}\nrefused 4 0\n"), false));
+    let sample = fs::read(crate_folder.join("../samples/settings.abx")).unwrap();
+    let tags = AbxParser::new(&sample)
+        .unwrap()
+        .filter_map(|event| match event {
+            Ok(Event::StartTag { name, .. }) => Some(format!("{name}\n")),
+            _ => None,
+        });
+    assert_eq!(names(&program, &sample), (tags.collect(), true));
 }
