@@ -1,4 +1,5 @@
-//! That no list takes far longer than short names of as many bytes, whatever its names are and whatever the pool has.
+//! That no list takes far longer than short names of as many bytes, whatever its names are and whatever the pool has; and that the wrapper
+//! writes long lists in a time that grows with them.
 
 #[path = "../src/library.rs"]
 mod library;
@@ -7,6 +8,7 @@ mod lists;
 
 use std::time::Instant;
 
+use abx::{events_to_abx, Attribute, AttributeValue, Event};
 use lists::{shapes, short_names, List, Writer, MOST_NAMES};
 
 /// So many times as long as short names of as many bytes.
@@ -64,4 +66,37 @@ fn a_second_list_of_names_that_look_alike() {
     for (what, names) in shapes() {
         holds(&format!("{what}, again"), &names, &names);
     }
+}
+
+/// On an idle machine each takes less than 0.1 s, built for release; here there may be neither.
+const SECONDS: f64 = 3.0;
+
+fn written(what: &str, events: &[Event], least: usize) {
+    let begin = Instant::now();
+    let document = events_to_abx(events).unwrap();
+    let taken = begin.elapsed().as_secs_f64();
+    assert!(document.len() >= least, "{what}: {} bytes", document.len());
+    assert!(taken < SECONDS, "{what}: {taken} s");
+}
+
+#[test]
+fn long_lists_of_the_wrapper() {
+    // Each of the most names in a tag with two attributes.
+    let name = |i: usize| format!("name{:05}", i % MOST_NAMES);
+    let attribute = |i| Attribute::new(name(i), AttributeValue::Null);
+    let tag = |i| Event::StartTag {
+        name: name(i).into(),
+        attributes: vec![attribute(7 * i + 1), attribute(13 * i + 5)],
+    };
+    let events: Vec<Event> = (0..65_536).map(tag).collect();
+    written("65,535 names in 196,608 rows", &events, 1 << 20);
+    let value = || AttributeValue::String("a value of some length".into());
+    let tag = |i: usize| Event::StartTag {
+        name: name(i % 300).into(),
+        attributes: (0..4)
+            .map(|j| Attribute::new(name(i % 77 + j), value()))
+            .collect(),
+    };
+    let events: Vec<Event> = (0..160_000).map(tag).collect();
+    written("16 MiB", &events, 16 << 20);
 }
