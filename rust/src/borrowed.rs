@@ -6,6 +6,34 @@ use std::fmt;
 use crate::cursor::Rows;
 use crate::{text, Attribute, AttributeValue, Event};
 
+/// A string of its own. A long one is copied by pieces: at once, the C library's copy takes ten times as long on some processors where the last twelve
+/// bits of the two places are nearly alike, and a window and a string often are.
+#[inline]
+pub(crate) fn copy(s: &str) -> String {
+    if s.len() <= PIECE {
+        s.to_owned()
+    } else {
+        copy_by_pieces(s)
+    }
+}
+
+const PIECE: usize = 1024;
+
+fn copy_by_pieces(s: &str) -> String {
+    let mut copy = String::with_capacity(s.len());
+    let mut rest = s;
+    while !rest.is_empty() {
+        let mut end = rest.len().min(PIECE);
+        while !rest.is_char_boundary(end) {
+            end -= 1;
+        }
+        let (piece, after) = rest.split_at(end);
+        copy.push_str(piece);
+        rest = after;
+    }
+    copy
+}
+
 /// One event, as [`Event`], whose strings and bytes lie in the reader until its next call. Strings are not escaped.
 #[derive(Debug, Clone, Copy, PartialEq, Eq)]
 pub enum EventRef<'a> {
@@ -53,13 +81,13 @@ impl EventRef<'_> {
                 attributes: attributes.to_vec(),
             },
             EventRef::EndTag { name } => Event::EndTag { name: name.into() },
-            EventRef::Text(s) => Event::Text(s.to_owned()),
-            EventRef::CdataSection(s) => Event::CdataSection(s.to_owned()),
-            EventRef::Comment(s) => Event::Comment(s.to_owned()),
-            EventRef::ProcessingInstruction(s) => Event::ProcessingInstruction(s.to_owned()),
-            EventRef::EntityReference(s) => Event::EntityReference(s.to_owned()),
-            EventRef::IgnorableWhitespace(s) => Event::IgnorableWhitespace(s.to_owned()),
-            EventRef::DocDecl(s) => Event::DocDecl(s.to_owned()),
+            EventRef::Text(s) => Event::Text(copy(s)),
+            EventRef::CdataSection(s) => Event::CdataSection(copy(s)),
+            EventRef::Comment(s) => Event::Comment(copy(s)),
+            EventRef::ProcessingInstruction(s) => Event::ProcessingInstruction(copy(s)),
+            EventRef::EntityReference(s) => Event::EntityReference(copy(s)),
+            EventRef::IgnorableWhitespace(s) => Event::IgnorableWhitespace(copy(s)),
+            EventRef::DocDecl(s) => Event::DocDecl(copy(s)),
         }
     }
 }
@@ -206,7 +234,7 @@ impl<'a> ValueRef<'a> {
     pub fn to_value(&self) -> AttributeValue {
         match *self {
             ValueRef::Null => AttributeValue::Null,
-            ValueRef::String(s) => AttributeValue::String(s.to_owned()),
+            ValueRef::String(s) => AttributeValue::String(copy(s)),
             ValueRef::BytesHex(bytes) => AttributeValue::BytesHex(bytes.to_vec()),
             ValueRef::BytesBase64(bytes) => AttributeValue::BytesBase64(bytes.to_vec()),
             ValueRef::Int(n) => AttributeValue::Int(n),

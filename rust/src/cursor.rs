@@ -10,7 +10,9 @@
 //!
 //! A span that ended outside its store would be empty, so that not even a wrong library could make a reader look elsewhere.
 
-use crate::borrowed::{AttributeRef, Attributes, EventRef, ValueRef};
+use std::mem;
+
+use crate::borrowed::{copy, AttributeRef, Attributes, EventRef, ValueRef};
 use crate::buffers::{Buffers, Sizes, ROW};
 use crate::checked::{self, Place, State, Stepped};
 use crate::name::{Known, SHORT};
@@ -169,6 +171,12 @@ impl<'a> Rows<'a> {
     }
 }
 
+/// Puts it there without a look at what was there, which is empty and owns nothing.
+#[inline]
+fn set<T>(put: &mut T, new: T) {
+    mem::forget(mem::replace(put, new));
+}
+
 /// Rows as what a caller owns. Names that start in the store that keeps them are known when they come again.
 ///
 /// Names and values are put where they stay: to make one elsewhere and move it costs more than to make it, since a move reads at once what was
@@ -188,30 +196,31 @@ impl Owner<'_, '_> {
             let rest = store.get(row[2] as usize..).unwrap_or_default();
             if let Some(room) = rest.first_chunk() {
                 // SAFETY: the rest begins with the name, which is as long.
-                return unsafe { put.set_short(room, name.len()) };
+                return set(put, unsafe { InternedStr::short(room, name.len()) });
             }
         }
-        *put = if row[1] == self.kept {
+        let name = if row[1] == self.kept {
             self.known.name(row[2], name)
         } else {
             name.into()
         };
+        set(put, name);
     }
 
     #[inline(always)]
     fn value(&self, row: &Row, put: &mut AttributeValue) {
         match self.rows.value(row) {
             ValueRef::Null => {}
-            ValueRef::String(s) => *put = AttributeValue::String(s.to_owned()),
-            ValueRef::BytesHex(bytes) => *put = AttributeValue::BytesHex(bytes.to_vec()),
-            ValueRef::BytesBase64(bytes) => *put = AttributeValue::BytesBase64(bytes.to_vec()),
-            ValueRef::Int(n) => *put = AttributeValue::Int(n),
-            ValueRef::IntHex(n) => *put = AttributeValue::IntHex(n),
-            ValueRef::Long(n) => *put = AttributeValue::Long(n),
-            ValueRef::LongHex(n) => *put = AttributeValue::LongHex(n),
-            ValueRef::Float(x) => *put = AttributeValue::Float(x),
-            ValueRef::Double(x) => *put = AttributeValue::Double(x),
-            ValueRef::Boolean(b) => *put = AttributeValue::Boolean(b),
+            ValueRef::String(s) => set(put, AttributeValue::String(copy(s))),
+            ValueRef::BytesHex(bytes) => set(put, AttributeValue::BytesHex(bytes.to_vec())),
+            ValueRef::BytesBase64(bytes) => set(put, AttributeValue::BytesBase64(bytes.to_vec())),
+            ValueRef::Int(n) => set(put, AttributeValue::Int(n)),
+            ValueRef::IntHex(n) => set(put, AttributeValue::IntHex(n)),
+            ValueRef::Long(n) => set(put, AttributeValue::Long(n)),
+            ValueRef::LongHex(n) => set(put, AttributeValue::LongHex(n)),
+            ValueRef::Float(x) => set(put, AttributeValue::Float(x)),
+            ValueRef::Double(x) => set(put, AttributeValue::Double(x)),
+            ValueRef::Boolean(b) => set(put, AttributeValue::Boolean(b)),
         }
     }
 

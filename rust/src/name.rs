@@ -65,17 +65,17 @@ impl InternedStr {
         bytes: [0; SHORT],
     }));
 
-    /// Becomes a short name with what stands behind it: that is copied at once, whatever the name's length is.
+    /// A short name with what stands behind it: that is copied at once, whatever the name's length is.
     ///
     /// # Safety
     ///
     /// The first `len` bytes, of which there are at most `SHORT`, are well-formed UTF-8.
-    #[inline]
-    pub(crate) unsafe fn set_short(&mut self, bytes: &[u8; SHORT], len: usize) {
-        *self = InternedStr(Held::Short(Short {
+    #[inline(always)]
+    pub(crate) unsafe fn short(bytes: &[u8; SHORT], len: usize) -> InternedStr {
+        InternedStr(Held::Short(Short {
             len: len as u8,
             bytes: *bytes,
-        }));
+        }))
     }
 
     /// The name as a string.

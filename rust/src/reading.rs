@@ -90,7 +90,6 @@ macro_rules! reading_methods {
         ///
         /// What is wrong with the event, or [`AbxError::Io`] of a source. The reader stays before the event, and the event's new names
         /// are not kept.
-        #[inline]
         pub fn next_event(&mut self) -> Result<Option<Event>> {
             Reading::next_event(self)
         }

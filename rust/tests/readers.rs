@@ -219,3 +219,16 @@ fn a_short_name_at_the_very_end() {
         assert_eq!(read.0.len(), 1);
     }
 }
+
+#[test]
+fn long_strings_are_copied_whole() {
+    // Characters of each length, on each side of where a copy may be cut.
+    for filler in 0..4 {
+        let text = "x".repeat(filler) + &"aé€😀".repeat(1000);
+        let value = Attribute::new("p", AttributeValue::String(text.clone()));
+        let events = [Event::Text(text), tag("p", vec![value])];
+        let document = events_to_abx(&events).unwrap();
+        assert_eq!(by_slice(&document).0, events);
+        assert_eq!(by_slice_borrowed(&document).0, events);
+    }
+}
