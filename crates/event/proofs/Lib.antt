@@ -1,4 +1,3 @@
 pub mod Tests
 mod Turns
 pub mod Shapes
-mod Equal

@@ -1,10 +1,10 @@
-use Rattle.event.proofs.Equal.{rows}
+use Rattle.equal_rows.proofs.Equal.{rows}
 use mathlib.Core.Path.{sym, _∙_}
 use Rattle.event.specs.Row.{sameRow, rowAt, equalRows}
 use borrow.Author.Tests.{le-leb, lt-leb, eq-eqb, ne-eqb}
 use borrow.Author.Needs.{needs}
-use Rattle.event.proofs.same_row.Statement.{statement}
-use Rattle.event.proofs.same_row.Tie as tie
+use Rattle.equal_rows.proofs.same_row.Statement.{statement}
+use Rattle.equal_rows.proofs.same_row.Tie as tie
 
 returns : tie.Need-returns
 unfolding equalRows

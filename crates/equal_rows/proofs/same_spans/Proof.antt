@@ -1,7 +1,7 @@
 use mathlib.Core.Path.{_∙_}
 use borrow.Author.Needs.{needs}
-use Rattle.event.proofs.same_spans.Statement.{statement}
-use Rattle.event.proofs.same_spans.Tie as tie
+use Rattle.equal_rows.proofs.same_spans.Statement.{statement}
+use Rattle.equal_rows.proofs.same_spans.Tie as tie
 
 shared-slice-read-span : tie.Need-shared-slice-read-span
 shared-slice-read-span c = search needs

@@ -1,11 +1,11 @@
-use Rattle.event.proofs.Equal.{values}
+use Rattle.equal_rows.proofs.Equal.{values}
 use Rattle.event.specs.declared.Shape.the-variants as Shape
 use Rattle.event.specs.Row.{valueAt, sameValue}
 use borrow.Author.Tests.{eq-eqb, ne-eqb}
 use mathlib.Core.Path.{sym, _∙_}
 use borrow.Author.Needs.{needs}
-use Rattle.event.proofs.same_value.Statement.{statement}
-use Rattle.event.proofs.same_value.Tie as tie
+use Rattle.equal_rows.proofs.same_value.Statement.{statement}
+use Rattle.equal_rows.proofs.same_value.Tie as tie
 
 shared-slice-read-shape-of : tie.Need-shared-slice-read-shape-of
 shared-slice-read-shape-of c = search needs

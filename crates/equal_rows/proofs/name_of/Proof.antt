@@ -1,7 +1,7 @@
 use Rattle.event.specs.Row.{rowAt}
 use borrow.Author.Needs.{needs}
-use Rattle.event.proofs.name_of.Statement.{statement}
-use Rattle.event.proofs.name_of.Tie as tie
+use Rattle.equal_rows.proofs.name_of.Statement.{statement}
+use Rattle.equal_rows.proofs.name_of.Tie as tie
 
 shared-slice-read-has-name : tie.Need-shared-slice-read-has-name
 shared-slice-read-has-name c = search needs
