@@ -35,13 +35,16 @@ pub(crate) const FALSE: u32 = 13;
 pub(crate) struct List {
     pub(crate) words: Vec<u32>,
     pub(crate) store: Vec<u8>,
-    /// Where names were put, by a hash of theirs: a name that is found there is not put again. A guess only, so that nothing is wrong where
-    /// the store has changed since; none where no names are expected to come again.
+    /// Where names were put, each by its hash or in one of the next places: a name that is found there is not put again. A length of 0 is none. The number
+    /// of places is a power of two, or none where no name is expected to come again.
     seen: Vec<[u32; 2]>,
 }
 
-/// Guesses for so many names.
-const SEEN: usize = 4096;
+/// The most places.
+const SEEN: usize = 65_536;
+
+/// In how many places a name is looked for.
+const TRIES: usize = 4;
 
 const NOTHING: [u32; 3] = [0; 3];
 
@@ -54,8 +57,10 @@ impl List {
     pub(crate) fn clear(&mut self, events: usize) {
         self.words.clear();
         self.store.clear();
-        if events > 64 && self.seen.is_empty() {
-            self.seen = vec![[0; 2]; SEEN];
+        self.seen.clear();
+        if events > 1 {
+            let places = (4 * events).next_power_of_two().min(SEEN);
+            self.seen.resize(places, [0; 2]);
         }
     }
 
@@ -107,18 +112,26 @@ impl List {
     // The library is quicker with a name, too, that starts where it did before.
     #[inline]
     fn name(&mut self, name: &str) -> Result<[u32; 3]> {
-        let slot = hash(name) as usize % SEEN;
-        if let Some([start, len]) = self.seen.get(slot).copied() {
-            let there = self.store.get(start as usize..);
-            if there.and_then(|there| there.get(..len as usize)) == Some(name.as_bytes()) {
+        let name = name.as_bytes();
+        let Some(last) = self.seen.len().checked_sub(1) else {
+            return self.span(name);
+        };
+        let first = hash(name) as usize & last;
+        for place in (first..).map(|place| place & last).take(TRIES) {
+            let Some(&[start, len]) = self.seen.get(place) else {
+                break;
+            };
+            if len == 0 {
+                let span = self.span(name)?;
+                self.seen[place] = [span[1], span[2]];
+                return Ok(span);
+            }
+            let there = start as usize..start as usize + len as usize;
+            if len as usize == name.len() && self.store.get(there) == Some(name) {
                 return Ok([0, start, len]);
             }
         }
-        let span = self.span(name.as_bytes())?;
-        if let Some(seen) = self.seen.get_mut(slot) {
-            *seen = [span[1], span[2]];
-        }
-        Ok(span)
+        self.span(name)
     }
 
     fn text(&mut self, kind: u32, s: &str) -> Result<()> {
@@ -152,16 +165,17 @@ impl List {
 
 /// By a name's length, beginning and end.
 #[inline]
-fn hash(name: &str) -> u64 {
-    let bytes = name.as_bytes();
-    let ends = match (bytes.first_chunk(), bytes.last_chunk()) {
-        (Some(first), Some(last)) => {
-            u64::from_ne_bytes(*first) ^ u64::from_ne_bytes(*last).rotate_left(29)
+fn hash(name: &[u8]) -> u64 {
+    let [first, last] = match (name.first_chunk(), name.last_chunk()) {
+        (Some(first), Some(last)) => [*first, *last].map(u64::from_ne_bytes),
+        _ => {
+            let whole = |all, byte: &u8| all << 8 | u64::from(*byte);
+            [name.iter().fold(0, whole), name.len() as u64]
         }
-        _ => bytes
-            .iter()
-            .fold(0, |ends, byte| ends << 8 | u64::from(*byte)),
     };
-    let mixed = (ends ^ bytes.len() as u64).wrapping_mul(0x9E37_79B9_7F4A_7C15);
-    mixed >> 40
+    // Both halves of a product have a part in each bit.
+    let first = u128::from(first ^ 0x9E37_79B9_7F4A_7C15);
+    let last = u128::from(last.wrapping_add(name.len() as u64) ^ 0xD1B5_4A32_D192_ED03);
+    let product = first * last;
+    (product >> 64) as u64 ^ product as u64
 }

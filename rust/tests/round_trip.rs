@@ -88,3 +88,31 @@ fn long_lists_are_written_in_parts() {
     assert_eq!(by_slice(&document), (events.clone(), None));
     assert_eq!(by_chunks(&document, 4096, 65_536), (events, None));
 }
+
+#[test]
+fn names_of_a_list_that_look_alike() {
+    // Of each length, with a common beginning and end, each twice; among them the empty name.
+    let mut names = vec![];
+    for len in 0..40 {
+        for other in 0..30 {
+            let mut name = "n".repeat(len);
+            if len > 0 {
+                let at = other % len;
+                name.replace_range(at..at + 1, &(other % 10).to_string());
+            }
+            names.push(name);
+        }
+    }
+    let events: Vec<Event> = names
+        .iter()
+        .chain(names.iter().rev())
+        .map(|name| common::end_tag(name))
+        .collect();
+    let document = events_to_abx(&events).unwrap();
+    assert_eq!(by_slice(&document), (events.clone(), None));
+    let mut writer = AbxWriter::new(vec![]).unwrap();
+    for event in &events {
+        writer.write_event(event).unwrap();
+    }
+    assert_eq!(writer.into_inner(), document);
+}
