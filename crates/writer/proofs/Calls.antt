@@ -16,11 +16,10 @@ use Rattle.writer_spec.specs.Writer.{Writer, Lent, refused, Left, Refusal, _bef
 use Rattle.grammar.specs.Choice.{neither}
 use Rattle.writer_spec.specs.Laws.{both-forms, pool-count}
 use Rattle.writer_spec.specs.Unrefused.{fits}
-use Rattle.writer.specs.Answers.{lentOf, leftOf, formsBy}
+use Rattle.writer.specs.Answers.{lentOf, formsBy}
 use Rattle.pool_index.specs.Slots.{Fresh}
 use Rattle.writer.specs.Passes.{most-notes, callFault, Slots, MeasureSays, Tried, Ready}
 use Rattle.writer.specs.declared.Measured.the-variants as Measured
-use Rattle.writer.specs.declared.Written.{Written}
 use Rattle.writer.specs.declared.Outcome.{Outcome}
 use Rattle.writer.specs.declared.Outcome.the-variants as Outcome
 
@@ -145,11 +144,12 @@ module _ (formed : Bool) (w : Writer) (l : Lent) (rs : List Row) (output table :
   tried-with size size′ (Outcome.Left x) h t = t
   tried-with size size′ Outcome.Crowded h t = (t .0, h)
 
-  -- with room for all notes
-  pub never-crowded : (n : ℕ) (r : Outcome) → most-notes ≤ n → r ≡ Outcome.Crowded → Tried formed w l rs output table (length {A = ℕ} (replicate n 0)) r → ⊥
-  never-crowded n r h e t =
-      let u : Tried formed w l rs output table (length {A = ℕ} (replicate n 0)) Outcome.Crowded = rw e at t in
-      omega (arith, u .1, length-replicate {A = ℕ} n 0)
+  -- with an array of so many zeros
+  pub tried-at : (n : ℕ) (r : Outcome) → Tried formed w l rs output table (length {A = ℕ} (replicate n 0)) r → Tried formed w l rs output table n r
+  tried-at n r t = rw (length-replicate {A = ℕ} n 0) at t
 
-  pub tried-left : (size : ℕ) (r : Outcome) (x : Written) → r ≡ Outcome.Left x → Tried formed w l rs output table size r → leftOf x output table ≡ write formed w l rs
-  tried-left size r x e t = rw e at t
+  -- with room for all notes
+  pub never-crowded : (r : Outcome) → r ≡ Outcome.Crowded → Tried formed w l rs output table most-notes r → ⊥
+  never-crowded r e t =
+      let u : Tried formed w l rs output table most-notes Outcome.Crowded = rw e at t in
+      omega (arith, u .1)

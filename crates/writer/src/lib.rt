@@ -1216,8 +1216,8 @@ fn write_nearly_all<'a>(
     )
 }
 
-// Notes of every name that a pool can hold: it is never crowded.
-fn write_all<'a>(
+// Notes of every name that a pool can hold.
+fn write_with_all<'a>(
     single: bool,
     writer: Writer,
     first: &'a [u8],
@@ -1225,14 +1225,14 @@ fn write_all<'a>(
     rows: &[u32],
     output: &mut [u8],
     pool: &mut [u32],
-) -> Written
-    ensures { λ r. ⌜ leftOf r (now (output .exit)) (now (pool .exit)) ≡ write (formsBy single (now (first .entry)) (now (second .entry)) (now (rows .entry))) (stateOf writer) (lentOf (now (output .entry)) (now (pool .entry))) (rowsIn (now (first .entry)) (now (second .entry)) (now (rows .entry))) ⌝ }
+) -> Outcome
+    ensures { λ r. ⌜ Tried (formsBy single (now (first .entry)) (now (second .entry)) (now (rows .entry))) (stateOf writer) (lentOf (now (output .entry)) (now (pool .entry))) (rowsIn (now (first .entry)) (now (second .entry)) (now (rows .entry))) (now (output .exit)) (now (pool .exit)) 327_675 r ⌝ }
 {
     let mut notes = [0u32; 327_675];
     let mut heads = [0u16; 16_384];
     let mut seen = [0u16; 32_768];
     let mut index = [0u16; 81_920];
-    match write_checked(
+    write_checked(
         single,
         writer,
         first,
@@ -1244,7 +1244,22 @@ fn write_all<'a>(
         &mut heads,
         &mut seen,
         &mut index,
-    ) {
+    )
+}
+
+// The same, which is never crowded.
+fn write_all<'a>(
+    single: bool,
+    writer: Writer,
+    first: &'a [u8],
+    second: &'a [u8],
+    rows: &[u32],
+    output: &mut [u8],
+    pool: &mut [u32],
+) -> Written
+    ensures { λ r. ⌜ leftOf r (now (output .exit)) (now (pool .exit)) ≡ write (formsBy single (now (first .entry)) (now (second .entry)) (now (rows .entry))) (stateOf writer) (lentOf (now (output .entry)) (now (pool .entry))) (rowsIn (now (first .entry)) (now (second .entry)) (now (rows .entry))) ⌝ }
+{
+    match write_with_all(single, writer, first, second, rows, output, pool) {
         Outcome::Left(w) => w,
         Outcome::Crowded => refused(Refusal::POOL_FULL),
     }

@@ -1,25 +1,12 @@
-use native.Mathlib.Omega.{arith}
 use Rattle.writer_spec.specs.Writer.{rowsIn}
 use Rattle.writer.specs.Answers.{lentOf, stateOf, formsBy}
-use Rattle.writer.proofs.Calls.{slots-of, fresh, never-crowded, tried-left}
+use Rattle.writer.proofs.Calls.{never-crowded}
 use borrow.Author.Needs.{needs}
 use Rattle.writer.proofs.write_all.Statement.{statement}
 use Rattle.writer.proofs.write_all.Tie as tie
 
-slice-aggregate-write-checked : tie.Need-slice-aggregate-write-checked
-slice-aggregate-write-checked c = search needs
-
-slice-aggregate-write-checked-2 : tie.Need-slice-aggregate-write-checked-2
-slice-aggregate-write-checked-2 c = search needs
-
-slice-aggregate-write-checked-3 : tie.Need-slice-aggregate-write-checked-3
-slice-aggregate-write-checked-3 c = search needs
-
-slice-aggregate-write-checked-4 : tie.Need-slice-aggregate-write-checked-4
-slice-aggregate-write-checked-4 c = search needs
-
-write-checked-requires : tie.Need-write-checked-requires
-write-checked-requires c κs = (fresh 81920, ((slots-of 16384 (omega arith) (omega arith), fresh 16384), slots-of 32768 (omega arith) (omega arith)))
+write-with-all-requires : tie.Need-write-with-all-requires
+write-with-all-requires c κs = search needs
 
 enum-known-w : tie.Need-enum-known-w
 enum-known-w c = search needs
@@ -31,36 +18,30 @@ refused-requires : tie.Need-refused-requires
 refused-requires c κs = search needs
 
 same-length : tie.Need-same-length
-same-length c = c .before .before .before .before .before .before .before .before .before .before .before .write-checked .kept .1 .1 .1 .1 .1 .0
+same-length c = search needs
 
 same-length-2 : tie.Need-same-length-2
-same-length-2 c = c .before .before .before .before .before .before .before .before .before .before .before .write-checked .kept .1 .1 .1 .1 .1 .1 .0
+same-length-2 c = search needs
 
 returns : tie.Need-returns
-returns c = let a = c .before .before .before .before .before .before .before .before .before .before .before .before .before .before .before .before .before .before .before .before .before .before .before .args in
-    let said = c .before .before .before .before .before .before .before .before .before .before .before .write-checked in
-    tried-left (formsBy (a .single) (a .first .now) (a .second .now) (a .rows .now)) (stateOf (a .writer)) (lentOf (a .output .now) (a .pool .now)) (rowsIn (a .first .now) (a .second .now) (a .rows .now)) (said .last .1 .1 .1 .1 .1 .0) (said .last .1 .1 .1 .1 .1 .1 .0) _ (said .result) _ (c .before .w .given .1) (said .ensures)
+returns c = rw (c .before .w .given .1) at (c .before .before .before .before .before .before .before .write-with-all .ensures)
 
 same-length-3 : tie.Need-same-length-3
-same-length-3 c = c .before .before .before .before .before .before .before .before .before .before .before .write-checked .kept .1 .1 .1 .1 .1 .0
+same-length-3 c = search needs
 
 same-length-4 : tie.Need-same-length-4
-same-length-4 c = c .before .before .before .before .before .before .before .before .before .before .before .write-checked .kept .1 .1 .1 .1 .1 .1 .0
+same-length-4 c = search needs
 
 returns-2 : tie.Need-returns-2
-returns-2 c = let a = c .before .before .before .before .before .before .before .before .before .before .before .before .before .before .before .before .before .before .before .before .before .before .before .args in
-    let said = c .before .before .before .before .before .before .before .before .before .before .before .write-checked in
-    absurd (never-crowded (formsBy (a .single) (a .first .now) (a .second .now) (a .rows .now)) (stateOf (a .writer)) (lentOf (a .output .now) (a .pool .now)) (rowsIn (a .first .now) (a .second .now) (a .rows .now)) (said .last .1 .1 .1 .1 .1 .0) (said .last .1 .1 .1 .1 .1 .1 .0) 327675 (said .result) (omega arith) (c .before .enum-told .given .1) (said .ensures))
+returns-2 c = let a = c .before .before .before .before .before .before .before .before .before .before .before .before .before .before .before .args in
+    let said = c .before .before .before .before .before .before .before .write-with-all in
+    absurd (never-crowded (formsBy (a .single) (a .first .now) (a .second .now) (a .rows .now)) (stateOf (a .writer)) (lentOf (a .output .now) (a .pool .now)) (rowsIn (a .first .now) (a .second .now) (a .rows .now)) (said .last .1 .1 .1 .1 .1 .0) (said .last .1 .1 .1 .1 .1 .1 .0) (said .result) (c .before .enum-told .given .1) (said .ensures))
 
 pub write-all-spec : {M : Type 1} → statement M
 write-all-spec =
     tie.close
     (tie.spec
-    slice-aggregate-write-checked
-    slice-aggregate-write-checked-2
-    slice-aggregate-write-checked-3
-    slice-aggregate-write-checked-4
-    write-checked-requires
+    write-with-all-requires
     enum-known-w
     enum-told
     refused-requires
