@@ -5,7 +5,7 @@ use mathlib.Core.Path.{_≡_, refl, sym, ap, _∙_}
 use Prim.Native.Nat.{ℕ, suc, _+_, _*_, _≤_, _<_}
 use native.Mathlib.Nat.{add-zero}
 use native.Mathlib.Omega.{arith}
-use borrow.Author.Tests.{eq-eqb, ne-eqb, eqb-true, eqb-false}
+use borrow.Author.Tests.{eq-eqb, ne-eqb, eqb-true}
 use lib.Dec.{eqb, leb}
 use lib.ListN.{length, take, length-append}
 use lib.Seq.{sets, length-sets, take-nil, drop-nil}
@@ -13,9 +13,9 @@ use Rattle.wire.specs.Token as Token
 use Rattle.event.specs.Laws.{both}
 use Rattle.event.specs.Span.{part, span, text, same}
 use Rattle.event.specs.Row.{hasName, rowAt}
-use Rattle.grammar.specs.Reader.{got}
-use Rattle.grammar.specs.Grammar.{Item, Items, item, whole, after, first, event}
-use Rattle.grammar.specs.Scan.{sound, nameWords, itemWords}
+use Rattle.grammar.specs.Reader.{Read, got}
+use Rattle.grammar.specs.Grammar.{Item, Items, item, whole, after, first, event, attribute}
+use Rattle.grammar.specs.Scan.{nameWords, itemWords}
 use Rattle.grammar.specs.Choice.{byTest, cond-by}
 use Rattle.grammar.specs.Said.{item-length}
 use Rattle.grammar.specs.Laws.{ItemFits}
@@ -24,8 +24,9 @@ use Rattle.slice_spec.specs.Queries.{Words, named, isElement, concat, kindOf}
 use Rattle.scanner.specs.declared.Pool.{Pool}
 use Rattle.scanner.specs.Keep.{PoolAfter, Keepable, ItemPlaced}
 use Rattle.grammar.specs.Turn.{rest}
-use Rattle.scanner.specs.Turn.{soundOf}
-use Rattle.scanner.proofs.Walk.{room-after, keepable-next, item-placed, first-fits, event-tag, event-single}
+use Rattle.scanner.specs.Turn.{soundOf, isAttribute}
+use Rattle.scanner.proofs.Attributes.{Turn, turn-end, turn-again, left-names, First, first-row, first-tag}
+use Rattle.scanner.proofs.Walk.{sound-next, room-after, keepable-next, item-placed}
 use Rattle.scanner.specs.declared.select.Query.{Query}
 use Rattle.scanner.specs.Select.{takesAll, takesOne, rowsOf, taken, chosen, Room, Chose}
 
@@ -73,65 +74,85 @@ module _ (base : ℕ) (s table : List ℕ) (i : Item) (is : Items) (p : Pool) (k
 keepable-as : (base : ℕ) (s table : List ℕ) (p : Pool) (a b : Items) → a ≡ b → Keepable base s a p table → Keepable base s b p table
 keepable-as base s table p a b e k = rw (← e) k
 
-sound-next : (S : ℕ → Bool) (table : List ℕ) (n : ℕ) (p q : Pool) → PoolAfter n p q → sound (p .kept) table (p .stored) ≡ S → sound (q .kept) table (q .stored) ≡ S
-sound-next S table n p q a e = ap (λ (x : ℕ). sound x table (q .stored)) (a .kept-stays) ∙ ap (λ (x : ℕ). sound (p .kept) table x) (a .stored-stays) ∙ e
-
 -- ---- attributes that are taken
 
 -- a row that is stored, or not
 pub put-long : (write : Bool) (rows : List ℕ) (to : ℕ) (w rows₁ : List ℕ) → rows₁ ≡ cond write (sets rows to w) rows → length rows₁ ≡ length rows
 put-long write rows to w rows₁ z = ap length z ∙ cond-by (λ (x : List ℕ). length x ≡ length rows) write _ _ (λ _. length-sets rows to w) (λ _. refl)
 
-module _ (base : ℕ) (s : List ℕ) (S : ℕ → Bool) (table document name : List ℕ) (all one write : Bool) (to N : ℕ) (R : List ℕ) where
-  abbrev of : Items → List Words
-  of is = taken all one document name (rowsOf base table is)
+abbrev of : ℕ → List ℕ → List ℕ → List ℕ → Bool → Bool → Items → List Words
+of base table document name all one is = taken all one document name (rowsOf base table is)
 
-  -- what is left of these rows: so many are taken in the end, and they make the words R
-  pub record Taking (is : Items) (pool : Pool) (rows : List ℕ) (count : ℕ) : Type 0 where
-    pub same-sound : sound (pool .kept) table (pool .stored) ≡ S
-    pub keepable : Keepable base s is pool table
-    pub room : write ≡ true → to + 8 * (count + length (of is)) ≤ length rows
-    pub count-to : count + length (of is) ≡ N
-    pub rows-to : cond write (sets rows (to + 8 * count) (concat (of is))) rows ≡ R
+-- what is left of these rows: so many are taken in the end, and they make the words R
+pub record Taking (base : ℕ) (s : List ℕ) (S : ℕ → Bool) (table document name : List ℕ) (all one write : Bool) (to N : ℕ) (R : List ℕ) (is : Items) (pool : Pool) (rows : List ℕ) (count : ℕ)
+    : Type 0 where
+  pub same-sound : soundOf pool table ≡ S
+  pub keepable : Keepable base s is pool table
+  pub room : write ≡ true → to + 8 * (count + length (of base table document name all one is)) ≤ length rows
+  pub count-to : count + length (of base table document name all one is) ≡ N
+  pub rows-to : cond write (sets rows (to + 8 * count) (concat (of base table document name all one is))) rows ≡ R
 
-  pub taking-as : (a b : Items) (pool : Pool) (rows : List ℕ) (count : ℕ) → a ≡ b → Taking a pool rows count → Taking b pool rows count
-  taking-as a b pool rows count e g = rw (← e) g
+-- the rows from a place on that are taken, and the words with them
+abbrev pub takenFrom : ℕ → List ℕ → List ℕ → List ℕ → List ℕ → Bool → Bool → Pool → ℕ → List Words
+takenFrom base s table document name all one pool at = of base table document name all one (rest (soundOf pool table) s (pool .names) at)
 
-  pub taking-start : (is : Items) (p : Pool) (rows : List ℕ) → sound (p .kept) table (p .stored) ≡ S → Keepable base s is p table → Room write to (length (of is)) rows
-      → length (of is) ≡ N → cond write (sets rows to (concat (of is))) rows ≡ R → Taking is p rows 0
-  taking-start is p rows e k r n w =
+module _ (base : ℕ) (s table document name : List ℕ) (all one write : Bool) (to : ℕ) (p : Pool) (at : ℕ) (rows : List ℕ) where
+  abbrev pub TakesTo : List ℕ
+  TakesTo = cond write (sets rows to (concat (takenFrom base s table document name all one p at))) rows
+
+  pub takes-long : length TakesTo ≡ length rows
+  takes-long = put-long write rows to (concat (takenFrom base s table document name all one p at)) TakesTo refl
+
+  pub taking-start : Keepable base s (rest (soundOf p table) s (p .names) at) p table → Room write to (length (takenFrom base s table document name all one p at)) rows
+      → Taking base s (soundOf p table) table document name all one write to (length (takenFrom base s table document name all one p at)) TakesTo (rest (soundOf p table) s (p .names) at) p rows 0
+  taking-start k r =
       let z : to + 8 * 0 ≡ to = omega arith in
-      record { same-sound = e; keepable = k; room = λ t. omega (arith, r .fits t); count-to = omega arith; rows-to = rw z w }
+      record {
+        same-sound = refl;
+        keepable = k;
+        room = λ t. omega (arith, r .fits t);
+        count-to = omega arith;
+        rows-to = ap (λ (x : ℕ). cond write (sets rows x (concat (takenFrom base s table document name all one p at))) rows) z;
+      }
 
-  pub taking-done : (n : ℕ) (e : Bool) (p : Pool) (rows : List ℕ) (count : ℕ) → Taking (whole n e) p rows count → (count ≡ N) × (rows ≡ R)
+module _ {base : ℕ} {s : List ℕ} {S : ℕ → Bool} {table document name : List ℕ} {all one write : Bool} {to N : ℕ} {R : List ℕ} where
+  pub taking-done : {n : ℕ} {e : Bool} {p : Pool} {rows : List ℕ} {count : ℕ} → Taking base s S table document name all one write to N R (whole n e) p rows count → (count ≡ N) × (rows ≡ R)
   unfolding rowsOf taken concat
-  taking-done n e p rows count g = (sym (add-zero count) ∙ g .count-to, cond-by (λ (x : List ℕ). x ≡ R → rows ≡ R) write _ _ (λ _ z. z) (λ _ z. z) (g .rows-to))
+  taking-done {n} {e} {p} {rows} {count} g =
+      (sym (add-zero count) ∙ g .count-to, cond-by (λ (x : List ℕ). x ≡ R → rows ≡ R) write _ _ (λ _ z. z) (λ _ z. z) (g .rows-to))
 
-  module _ (i : Item) (is : Items) (p : Pool) (rows : List ℕ) (count : ℕ) (g : Taking (item i is) p rows count) (f : ItemFits (length s) (p .names) i) where
+  module _ {i : Item} {is : Items} {p : Pool} {rows : List ℕ} {count : ℕ} (g : Taking base s S table document name all one write to N R (item i is) p rows count)
+      (f : ItemFits (length s) (p .names) i) where
     pub taking-placed : ItemPlaced base table i
     taking-placed = row-placed base s table i is p (g .keepable) f
 
     abbrev w : Words
     w = itemWords 0 base table i
 
+    abbrev these : List Words
+    these = of base table document name all one (item i is)
+
+    abbrev later : List Words
+    later = of base table document name all one is
+
     pub taking-room : (all || named document name w) ≡ true → write ≡ true → (to + 8 * count) + 8 ≤ length rows
     unfolding rowsOf taken
     taking-room h e = omega (arith, g .room e, few)
       where
-        few : 1 ≤ length (of (item i is))
+        few : 1 ≤ length these
         few = rw h (omega arith)
 
     module _ (q : Pool) (a : PoolAfter (after (p .names) i) p q) where
-      sound-stays : sound (q .kept) table (q .stored) ≡ S
-      sound-stays = sound-next S table _ p q a (g .same-sound)
+      sound-stays : soundOf q table ≡ S
+      sound-stays = sound-next table _ p q a ∙ g .same-sound
 
       keepable-on : Keepable base s is q table
       keepable-on = keepable-next base s table i is p (g .keepable) q table refl a
 
-      pub taking-skip : (all || named document name w) ≡ false → Taking is q rows count
+      pub taking-skip : (all || named document name w) ≡ false → Taking base s S table document name all one write to N R is q rows count
       unfolding rowsOf taken
       taking-skip h =
-          let e : of (item i is) ≡ of is = rw h in
+          let e : these ≡ later = rw h in
           record {
             same-sound = sound-stays;
             keepable = keepable-on;
@@ -144,11 +165,11 @@ module _ (base : ℕ) (s : List ℕ) (S : ℕ → Bool) (table document name : L
         long : length rows₁ ≡ length rows
         long = put-long write rows (to + 8 * count) w rows₁ z
 
-        pub taking-more : one ≡ false → Taking is q rows₁ (count + 1)
+        pub taking-more : one ≡ false → Taking base s S table document name all one write to N R is q rows₁ (count + 1)
         unfolding rowsOf taken concat
         taking-more o =
-            let e : of (item i is) ≡ w ∷ of is = rw (h, o) in
-            let l : length (of (item i is)) ≡ suc (length (of is)) = ap length e in
+            let e : these ≡ w ∷ later = rw (h, o) in
+            let l : length these ≡ suc (length later) = ap length e in
             record {
               same-sound = sound-stays;
               keepable = keepable-on;
@@ -157,32 +178,45 @@ module _ (base : ℕ) (s : List ℕ) (S : ℕ → Bool) (table document name : L
               rows-to = byTest write (λ t. wrote e t) (λ t. kept t);
             }
           where
-            wrote : of (item i is) ≡ w ∷ of is → write ≡ true → cond write (sets rows₁ (to + 8 * (count + 1)) (concat (of is))) rows₁ ≡ R
+            wrote : these ≡ w ∷ later → write ≡ true → cond write (sets rows₁ (to + 8 * (count + 1)) (concat later)) rows₁ ≡ R
             wrote e t =
                 let n : to + 8 * (count + 1) ≡ (to + 8 * count) + length w = omega (arith, item-length 0 base table i) in
                 let z′ : rows₁ ≡ sets rows (to + 8 * count) w = z ∙ rw t in
-                rw (t, n, z′, ← sets-append rows (to + 8 * count) w (concat (of is))) (rw (t, e) at (g .rows-to))
+                rw (t, n, z′, ← sets-append rows (to + 8 * count) w (concat later)) (rw (t, e) at (g .rows-to))
 
-            kept : write ≡ false → cond write (sets rows₁ (to + 8 * (count + 1)) (concat (of is))) rows₁ ≡ R
+            kept : write ≡ false → cond write (sets rows₁ (to + 8 * (count + 1)) (concat later)) rows₁ ≡ R
             kept t = rw t (z ∙ rw t (rw t at (g .rows-to)))
 
         pub taking-one : one ≡ true → (count + 1 ≡ N) × (rows₁ ≡ R)
         unfolding rowsOf taken concat
         taking-one o =
-            let e : of (item i is) ≡ w ∷ [] = rw (h, o) in
-            let l : length (of (item i is)) ≡ 1 = ap length e in
+            let e : these ≡ w ∷ [] = rw (h, o) in
+            let l : length these ≡ 1 = ap length e in
             (omega (arith, g .count-to), byTest write (λ t. wrote e t) (λ t. kept t))
           where
-            wrote : of (item i is) ≡ w ∷ [] → write ≡ true → rows₁ ≡ R
+            wrote : these ≡ w ∷ [] → write ≡ true → rows₁ ≡ R
             wrote e t = z ∙ rw t (rw (t, e, append-nil w) at (g .rows-to))
 
             kept : write ≡ false → rows₁ ≡ R
             kept t = z ∙ rw t (rw t at (g .rows-to))
 
+  pub taking-long : {is : Items} {p : Pool} {rows : List ℕ} {count : ℕ} → Taking base s S table document name all one write to N R is p rows count → length rows ≡ length R
+  taking-long {is} {p} {rows} {count} g =
+      sym (put-long write rows (to + 8 * count) (concat (of base table document name all one is)) _ refl) ∙ ap length (g .rows-to)
+
   -- an attribute's row
-  pub taking-next : (i : Item) (n : ℕ) (p q : Pool) (rows : List ℕ) (count : ℕ) → PoolAfter (after (p .names) i) p q → Taking (rest S s (after (p .names) i) n) q rows count
-      → Taking (rest S s (q .names) n) q rows count
-  taking-next i n p q rows count a g = taking-as _ _ q rows count (ap (λ (x : ℕ). rest S s x n) (sym (a .names-are))) g
+  pub taking-next : (n m : ℕ) (q : Pool) {rows : List ℕ} {count : ℕ} → q .names ≡ m → Taking base s S table document name all one write to N R (rest S s m n) q rows count
+      → Taking base s S table document name all one write to N R (rest S s (q .names) n) q rows count
+  taking-next n m q {rows} {count} e g = left-names (λ is. Taking base s S table document name all one write to N R is q rows count) S s n m (q .names) e g
+
+  -- at a place: nothing is left, or an attribute is, which was read before
+  module _ {p : Pool} {rows : List ℕ} {count : ℕ} (at : ℕ) (g : Taking base s S table document name all one write to N R (rest S s (p .names) at) p rows count) where
+    pub taking-end : isAttribute s at ≡ false → (count ≡ N) × (rows ≡ R)
+    taking-end b = taking-done (turn-end (λ is. Taking base s S table document name all one write to N R is p rows count) S s (p .names) at g b)
+
+    pub taking-turn : isAttribute s at ≡ true → (x : Read Item) → x ≡ attribute (soundOf p table) (p .names) s at → (i : Item) (n : ℕ) → x ≡ got i n
+        → Turn (λ is. Taking base s S table document name all one write to N R is p rows count) S s (p .names) at i n
+    taking-turn = turn-again S at (g .same-sound) (g .keepable) (λ is. Taking base s S table document name all one write to N R is p rows count) g
 
 -- ---- an event's own row, then its attributes
 
@@ -240,21 +274,22 @@ module _ (q : Query) (document element name : List ℕ) (base : ℕ) (s : List �
     abbrev others : List Words
     others = taken (takesAll q) (takesOne q) document name (rowsOf base table (rest S s (after (p .names) i) n))
 
+    by-row : First (λ is. whole-event ≡ is) s (p .names) i n
+    by-row = first-row (λ is. whole-event ≡ is) S s (p .names) refl i n e
+
+    by-tag : i .kind ≡ Token.startTag → whole-event ≡ item i (rest S s (after (p .names) i) n)
+    by-tag = first-tag (λ is. whole-event ≡ is) S s (p .names) refl i n e
+
     pub first-placed : ItemPlaced base table i
-    first-placed =
-        byTest (eqb (i .kind) Token.startTag)
-        (λ b. row-placed base s table i _ p (rw (event-tag S s (p .names) i n e (eqb-true _ _ b)) at k) (first-fits S s (p .names) i n e .1))
-        (λ b. row-placed base s table i _ p (rw (event-single S s (p .names) i n e (eqb-false _ _ b)) at k) (first-fits S s (p .names) i n e .1))
+    first-placed = row-placed base s table i _ p (rw (by-row .left) at k) (by-row .fits)
 
     pub kind-is : i .kind ≡ kindOf whole-event
     unfolding kindOf
-    kind-is =
-        byTest (eqb (i .kind) Token.startTag) (λ b. rw (event-tag S s (p .names) i n e (eqb-true _ _ b))) (λ b. rw (event-single S s (p .names) i n e (eqb-false _ _ b)))
+    kind-is = rw (by-row .left)
 
     pub chosen-none : isElement document element row ≡ false → all-chosen ≡ []
     unfolding rowsOf chosen
-    chosen-none h =
-        byTest (eqb (i .kind) Token.startTag) (λ b. rw (event-tag S s (p .names) i n e (eqb-true _ _ b), h)) (λ b. rw (event-single S s (p .names) i n e (eqb-false _ _ b), h))
+    chosen-none h = rw (by-row .left, h)
 
     module _ (h : isElement document element row ≡ true) where
       tag : i .kind ≡ Token.startTag
@@ -263,18 +298,18 @@ module _ (q : Query) (document element name : List ℕ) (base : ℕ) (s : List �
 
       pub chosen-is : all-chosen ≡ own ++ others
       unfolding rowsOf chosen
-      chosen-is = rw (event-tag S s (p .names) i n e tag, h)
+      chosen-is = rw (by-tag tag, h)
 
       pub rest-keepable : (q′ : Pool) → PoolAfter (after (p .names) i) p q′ → Keepable base s (rest (soundOf q′ table) s (q′ .names) n) q′ table
       rest-keepable q′ a =
-          let z : soundOf q′ table ≡ S = sound-next S table _ p q′ a refl in
-          let g : Keepable base s (rest S s (after (p .names) i) n) q′ table = keepable-next base s table i _ p (rw (event-tag S s (p .names) i n e tag) at k) q′ table refl a in
+          let z : soundOf q′ table ≡ S = sound-next table _ p q′ a in
+          let g : Keepable base s (rest S s (after (p .names) i) n) q′ table = keepable-next base s table i _ p (rw (by-tag tag) at k) q′ table refl a in
           keepable-as base s table q′ _ _ (ap (λ (x : ℕ → Bool). rest x s (after (p .names) i) n) (sym z) ∙ ap (λ (x : ℕ). rest (soundOf q′ table) s x n) (sym (a .names-are))) g
 
       pub others-are : (q′ : Pool) → PoolAfter (after (p .names) i) p q′ → (all one : Bool) → all ≡ takesAll q → one ≡ takesOne q
           → taken all one document name (rowsOf base table (rest (soundOf q′ table) s (q′ .names) n)) ≡ others
       others-are q′ a all one f g =
-          let z : soundOf q′ table ≡ S = sound-next S table _ p q′ a refl in
+          let z : soundOf q′ table ≡ S = sound-next table _ p q′ a in
           rw (z, a .names-are, f, g)
 
       pub own-eight : length (concat own) ≡ 8 * length own

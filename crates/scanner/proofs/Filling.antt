@@ -5,8 +5,7 @@ use mathlib.Core.Option.{Option, none, some}
 use mathlib.Core.Path.{_≡_, refl, sym, ap, _∙_}
 use Prim.Native.Nat.{ℕ, _+_, _*_, _≤_, _<_}
 use native.Mathlib.Omega.{arith}
-use borrow.Author.Tests.{lt-ltb, eqb-true, eqb-false}
-use lib.Dec.{eqb}
+use borrow.Author.Tests.{lt-ltb}
 use lib.ListN.{length, getD}
 use lib.Seq.{sets, length-sets}
 use Rattle.wire.specs.Limits.{maxStore}
@@ -15,7 +14,6 @@ use Rattle.wire.specs.Token as Token
 use Rattle.event.specs.declared.Shape.{Shape}
 use Rattle.grammar.specs.Document.{typeOf}
 use Rattle.grammar.specs.Grammar.{Span, Ref, new, known, Value, Item, Items, item, whole, most, counted, countedName, countedValue, after, string, blob, name, value, attribute, first, event}
-use Rattle.grammar.specs.Choice.{byTest}
 use Rattle.grammar.specs.Scan.{sound, addsRef, addsName, addsValue, addsItem, adds, pairs, count, spanWords, refWords, nameWords, valueWords, itemWords, words}
 use Rattle.grammar.specs.Said.{item-length}
 use Rattle.grammar.specs.Added.{counted-adds, countedName-adds, countedValue-adds}
@@ -24,7 +22,7 @@ use Rattle.grammar.specs.Laws.{RefFits, NameFits, ValueFits, ItemFits, good-str
 use Rattle.scanner.specs.Answers.{asText, asInterned, asWord, asPair}
 use Rattle.grammar.specs.Binds.{Got}
 use Rattle.grammar.specs.Rows.{asAttribute}
-use Rattle.scanner.specs.Keep.{PoolAfter, NameRoom, ValueRoom, ItemPlaced, Keepable, Writable, There, wordsOf}
+use Rattle.scanner.specs.Keep.{PoolAfter, ItemPlaced, Keepable, Writable, There, wordsOf}
 use Rattle.scanner.specs.Fill.{Has, Once, Fillable, Stored, SpanPlain, WordPlain, PairPlain, RefFilled, ValueFilled, RowFilled}
 use Rattle.scanner.specs.declared.Pool.{Pool}
 use Rattle.scanner.specs.declared.fill.Filled.{Filled}

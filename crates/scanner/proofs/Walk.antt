@@ -3,79 +3,28 @@ use mathlib.Core.Bool.{Bool, true, false}
 use mathlib.Core.Option.{Option, none, some}
 use mathlib.Core.List.{List, [], _∷_, _++_}
 use mathlib.Core.Path.{_≡_, refl, sym, ap, _∙_}
-use Prim.Native.Nat.{ℕ, suc, _+_, _*_, _≤_, _<_}
+use Prim.Native.Nat.{ℕ, suc, _+_, _*_, _≤_}
 use native.Mathlib.Omega.{arith}
-use borrow.Author.Tests.{lt-ltb, eq-eqb, ne-eqb, eqb-true, eqb-false}
-use lib.Dec.{eqb}
-use lib.ListN.{length, getD, set, length-append}
+use borrow.Author.Tests.{lt-ltb}
+use lib.ListN.{length, set, length-append}
 use lib.Seq.{sets, length-sets}
 use Rattle.wire.specs.Token as Token
-use Rattle.wire.specs.Token.{command}
 use Rattle.event.specs.declared.Shape.{Shape}
-use Rattle.grammar.specs.Reader.{Read, got, short, refused}
+use Rattle.grammar.specs.Reader.{Read, got}
 use Rattle.grammar.specs.Grammar.{Span, Ref, new, known, Value, Item, Items, item, whole, most, counted, countedName, countedValue, after, attribute, first, event}
 use Rattle.grammar.specs.Scan.{sound, addsItem, adds, pairs, count, itemWords, words}
-use Rattle.grammar.specs.Choice.{byTest}
 use Rattle.grammar.specs.Said.{item-length}
-use Rattle.grammar.specs.Laws.{RefFits, NameFits, ValueFits, ItemFits, good-attribute, good-first}
+use Rattle.grammar.specs.Laws.{RefFits, NameFits, ValueFits, ItemFits}
 use Rattle.grammar.specs.Added.{countedName-adds, countedValue-adds, after-adds}
 use Rattle.grammar.specs.Stores.{sets-append, sound-sets}
 use Rattle.scanner.specs.Answers.{poolGrown}
-use Rattle.grammar.specs.Binds.{Got}
 use Rattle.wire.specs.Limits.{maxStore}
 use Rattle.scanner.specs.declared.Pool.{Pool}
-use Rattle.scanner.specs.Keep.{PoolAfter, RefRoom, NameRoom, ValueRoom, RefPlaced, NamePlaced, ValuePlaced, ItemPlaced, Ended, Keepable, Writable}
+use Rattle.scanner.specs.Keep.{PoolAfter, RefRoom, NameRoom, ValueRoom, RefPlaced, NamePlaced, ValuePlaced, ItemPlaced, Keepable, Writable}
 use Rattle.scanner.specs.Turn.{soundOf, isAttribute}
-use Rattle.grammar.specs.Turn.{rest, rest-short, rest-stops}
+use Rattle.grammar.specs.Turn.{rest}
 use Rattle.scanner.proofs.Attributes.{Turn, turn-end, turn-again, left-names, First, first-row, first-tag, first-single}
 use Rattle.scanner.proofs.Keeping.{pairs-turn}
-
--- ---- an event that was read well: each of its rows was
-
-module _ (S : ℕ → Bool) (s : List ℕ) (names : ℕ) where
-  module _ (at : ℕ) (h : at < length s) (k : command (getD s at 0) ≡ Token.attribute) (w : Ended (rest S s names at)) where
-    go : (x : Read Item) → attribute S names s at ≡ x → Got (attribute S names s at)
-    go (got i n) e = record { it = i; place = n; is = e }
-    go (short j) e = absurd (rw (rest-short S s names at h k j e) at w)
-    go (refused j d) e = absurd (rw (rest-stops S s names at h k j d e) at w)
-
-    pub ended-attribute : Got (attribute S names s at)
-    ended-attribute = go (attribute S names s at) refl
-
-    pub never-short : (j : ℕ) → attribute S names s at ≡ short j → ⊥
-    never-short j e = rw (rest-short S s names at h k j e) at w
-
-    pub never-refused : (j d : ℕ) → attribute S names s at ≡ refused j d → ⊥
-    never-refused j d e = rw (rest-stops S s names at h k j d e) at w
-
-  module _ (w : Ended (event S names s)) where
-    pub first-short : (j : ℕ) → first S names s 0 ≡ short j → ⊥
-    unfolding event
-    first-short j e = rw e at w
-
-    pub first-refused : (j d : ℕ) → first S names s 0 ≡ refused j d → ⊥
-    unfolding event
-    first-refused j d e = rw e at w
-
-    go-first : (x : Read Item) → first S names s 0 ≡ x → Got (first S names s 0)
-    go-first (got i n) e = record { it = i; place = n; is = e }
-    go-first (short j) e = absurd (first-short j e)
-    go-first (refused j d) e = absurd (first-refused j d e)
-
-    pub ended-first : Got (first S names s 0)
-    ended-first = go-first (first S names s 0) refl
-
-  pub first-fits : (i : Item) (n : ℕ) → first S names s 0 ≡ got i n → (n ≤ length s) × ItemFits (length s) names i
-  first-fits i n e = let w = rw e at (good-first s [] S names .law 0 (omega arith)) in (w .1, w .2)
-
-  -- the event by its own row
-  pub event-tag : (i : Item) (n : ℕ) → first S names s 0 ≡ got i n → i .kind ≡ Token.startTag → event S names s ≡ item i (rest S s (after names i) n)
-  unfolding event
-  event-tag i n e k = rw (e, eq-eqb _ _ k)
-
-  pub event-single : (i : Item) (n : ℕ) → first S names s 0 ≡ got i n → (i .kind ≡ Token.startTag → ⊥) → event S names s ≡ item i (whole n false)
-  unfolding event
-  event-single i n e k = rw (e, ne-eqb _ _ k)
 
 -- ---- the pool after a row
 

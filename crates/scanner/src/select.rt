@@ -1,6 +1,5 @@
 // One event of a query: it is measured as by a reader, and of its rows only those that the query asks for are written.
 use crate::Item;
-use crate::ItemRead;
 use crate::Outcome;
 use crate::Pool;
 use wire::Command;
@@ -158,28 +157,15 @@ fn take_rest(
     let mut at = from;
     let mut pool = start;
     let mut count = 0;
-    while at < s.len() {
-        let command = Command::new(tokens, s[at]);
-        let kind = command.0;
-        if kind != Command::ATTRIBUTE {
-            return count;
-        }
-        match crate::attribute_at(s, at, false, tokens, table, pool) {
-            ItemRead::Got { item, next } => {
-                pool = crate::after_item(pool, item);
-                at = next;
-                if is_taken(all, document, base, table, item, name) {
-                    put_taken(write, rows, to + 8 * count, base, table, item);
-                    count += 1;
-                    if one {
-                        return count;
-                    }
-                }
-            }
-            ItemRead::Short(_) => {
-                return count;
-            }
-            ItemRead::Refused(_) => {
+    while crate::is_attribute(s, at, tokens) {
+        let row = crate::row_of(crate::attribute_at(s, at, false, tokens, table, pool));
+        let item = row.item;
+        pool = crate::after_item(pool, item);
+        at = row.next;
+        if is_taken(all, document, base, table, item, name) {
+            put_taken(write, rows, to + 8 * count, base, table, item);
+            count += 1;
+            if one {
                 return count;
             }
         }
@@ -236,37 +222,31 @@ fn take_event(
     ensures rows { λ r. ⌜ Chose write to (chosen query (now (document .entry)) (now (element .entry)) (now (name .entry)) (rowsOf base (now (table .entry)) (event (sound (pool .kept) (now (table .entry)) (pool .stored)) (pool .names) (now (s .entry))))) (now (rows .entry)) (now (rows .exit)) (r .rows) ⌝ }
     ensures kind { λ r. ⌜ r .kind ≡ kindOf (event (sound (pool .kept) (now (table .entry)) (pool .stored)) (pool .names) (now (s .entry))) ⌝ }
 {
-    match crate::first_at(s, false, tokens, table, pool) {
-        ItemRead::Got { item, next } => {
-            let kind = item.kind;
-            if is_element(document, base, table, item, element) {
-                let all = takes_all(query);
-                let first = take_first(all, write, rows, to, base, table, item);
-                let rest = take_rest(
-                    s,
-                    next,
-                    base,
-                    tokens,
-                    table,
-                    crate::after_item(pool, item),
-                    document,
-                    name,
-                    all,
-                    takes_one(query),
-                    write,
-                    rows,
-                    to + 8 * first,
-                );
-                return Took {
-                    kind,
-                    rows: first + rest,
-                };
-            }
-            Took { kind, rows: 0 }
-        }
-        ItemRead::Short(_) => Took { kind: 0, rows: 0 },
-        ItemRead::Refused(_) => Took { kind: 0, rows: 0 },
+    let row = crate::row_of(crate::first_at(s, false, tokens, table, pool));
+    let item = row.item;
+    let kind = item.kind;
+    if is_element(document, base, table, item, element) {
+        let all = takes_all(query);
+        let first = take_first(all, write, rows, to, base, table, item);
+        let rest = take_rest(
+            s,
+            row.next,
+            base,
+            tokens,
+            table,
+            crate::after_item(pool, item),
+            document,
+            name,
+            all,
+            takes_one(query),
+            write,
+            rows,
+            to + 8 * first,
+        );
+        let both = first + rest;
+        return Took { kind, rows: both };
     }
+    Took { kind, rows: 0 }
 }
 
 // ---- an event that was read whole
