@@ -19,6 +19,7 @@ use Rattle.grammar.specs.Binds.{Got}
 use Rattle.scanner.specs.Keep.{Ended, Keepable}
 use Rattle.scanner.specs.Turn.{soundOf, isAttribute}
 use Rattle.scanner.specs.declared.Pool.{Pool}
+use Rattle.grammar.specs.Rows.{command-is}
 
 -- an attribute stands there, or none does
 pub stands : (s : List ℕ) (at : ℕ) → isAttribute s at ≡ true → (at < length s) × (command (getD s at 0) ≡ Token.attribute)
@@ -38,6 +39,16 @@ is-attribute s at h b e = rw (lt-ltb at (length s) h) e
 pub is-other : (s : List ℕ) (at : ℕ) → length s ≤ at → false ≡ isAttribute s at
 unfolding isAttribute
 is-other s at h = rw (le-ltb at (length s) h)
+
+-- by the command of the byte there
+module _ (s tokens : List ℕ) (at kind : ℕ) (e : tokens ≡ Token.builtIn) (h : at < length s) (small : getD s at 0 < 256) (q : kind ≡ Token.commandIn tokens (getD s at 0)) where
+  pub told-attribute : kind ≡ Token.attribute → isAttribute s at ≡ true
+  unfolding isAttribute
+  told-attribute k = rw (lt-ltb at (length s) h, eq-eqb _ _ (sym (command-is tokens (getD s at 0) kind e small q) ∙ k))
+
+  pub told-other : (kind ≡ Token.attribute → ⊥) → isAttribute s at ≡ false
+  unfolding isAttribute
+  told-other k = rw (lt-ltb at (length s) h, ne-eqb _ _ (λ t. k (command-is tokens (getD s at 0) kind e small q ∙ t)))
 
 -- what was read is not short, nor refused
 pub unread : (x : Read Item) → Got x → {j : ℕ} → x ≡ short j → ⊥

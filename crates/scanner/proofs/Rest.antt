@@ -2,23 +2,25 @@
 use mathlib.Core.Bool.{Bool, true, false}
 use mathlib.Core.Option.{Option, none, some}
 use mathlib.Core.List.{List, [], _++_}
-use mathlib.Core.Path.{_≡_, refl, sym, ap, _∙_}
-use Prim.Native.Nat.{ℕ, zero, suc, _+_, _≤_, _<_}
+use mathlib.Core.Path.{_≡_, sym, ap, _∙_}
+use Prim.Native.Nat.{ℕ, suc, _+_, _≤_, _<_}
 use native.Mathlib.Omega.{arith}
-use borrow.Author.Tests.{eq-eqb, ne-eqb}
-use lib.ListN.{length, getD, length-append}
+use borrow.Author.Tests.{eq-eqb, ne-eqb, le-leb, lt-leb}
+use lib.Dec.{leb}
+use lib.ListN.{length, length-append}
 use Rattle.wire.specs.Token as Token
 use Rattle.event.specs.declared.Shape.{Shape}
-use Rattle.wire.specs.Token.{command}
-use Rattle.grammar.specs.Reader.{got, short, refused}
+use Rattle.grammar.specs.Reader.{Read, got, short, refused}
 use Rattle.grammar.specs.Grammar.{Ref, new, known, Value, Item, Items, item, whole, lacks, stops, after, attribute, first, event}
-use Rattle.grammar.specs.Laws.{RefFits, NameFits, ValueFits, ItemFits, good-attribute, good-first}
-use Rattle.grammar.specs.Turn.{rest, rest-end, rest-other, rest-more, rest-short, rest-stops}
+use Rattle.grammar.specs.Laws.{RefFits, NameFits, ValueFits, ItemFits, good-first}
+use Rattle.grammar.specs.Turn.{rest, attribute-fits}
 use Rattle.grammar.specs.Scan.{sound, Outcome, adds, count, lengths, outcome, Measure, measure}
 use Rattle.wire.specs.Limits.{maxStore}
 use Rattle.scanner.specs.Tally.{RefSmall, NameSmall, ValueSmall, ItemSmall, Bounded, Counts, plus}
 use Rattle.scanner.specs.declared.Pool.{Pool}
+use Rattle.scanner.specs.Turn.{soundOf, isAttribute}
 use Rattle.scanner.specs.declared.Tally.{Tally}
+use Rattle.scanner.proofs.Attributes.{Turn, turn-end, turn-row, turn-short, turn-stops, left-names}
 use Rattle.scanner.proofs.Tallies.{lengths-append, item-adds}
 
 -- ---- what is measured
@@ -96,49 +98,75 @@ module _ (finished : Bool) (s table : List ℕ) where
     abbrev here : ℕ → Bool
     here = sound (t .pool .kept) table (t .pool .stored)
 
-    pub remains-end : length s ≤ at → asTold t (outcome finished (whole at true)) ≡ Remains t at
-    remains-end h = rw (rest-end here s (t .pool .names) at h) (measure-whole finished t at true)
-
-    module _ (h : at < length s) where
-      pub remains-other : (command (getD s at 0) ≡ Token.attribute → ⊥) → asTold t (outcome finished (whole at false)) ≡ Remains t at
-      remains-other k = rw (rest-other here s (t .pool .names) at h k) (measure-whole finished t at false)
-
-      module _ (k : command (getD s at 0) ≡ Token.attribute) where
-        pub remains-short : (j : ℕ) → attribute here (t .pool .names) s at ≡ short j → asTold t (outcome finished (lacks j)) ≡ Remains t at
-        remains-short j e = rw (rest-short here s (t .pool .names) at h k j e) (measure-lacks finished t j)
-
-        pub remains-stops : (n d : ℕ) → attribute here (t .pool .names) s at ≡ refused n d → asTold t (outcome finished (stops n d)) ≡ Remains t at
-        remains-stops n d e = rw (rest-stops here s (t .pool .names) at h k n d e) (measure-stops finished t n d)
-
-        module _ (i : Item) (n : ℕ) (e : attribute here (t .pool .names) s at ≡ got i n) (r : Tally) (c : Counts i t r) where
-          pub remains-more : Remains r n ≡ Remains t at
-          remains-more =
-              ap (λ (is : Items). plus r (measure finished (r .pool .names) is)) (rest-same n _ _ _ _ _ _ (c .kept-stays) (c .stored-stays) (c .names-are))
-              ∙ measure-more finished t r i (rest here s (after (t .pool .names) i) n) c
-              ∙ ap (λ (is : Items). plus t (measure finished (t .pool .names) is)) (sym (rest-more here s (t .pool .names) at h k i n e))
-
     -- the bounds
     module _ (h : at ≤ length s) (l : length s ≤ maxStore) (i : Item) (n : ℕ) (e : attribute here (t .pool .names) s at ≡ got i n) where
-      abbrev fine : (at + 1 ≤ n) × (n ≤ length s) × ItemFits (length s) (t .pool .names) i × (attribute here (t .pool .names) (s ++ []) at ≡ got i n)
-      fine = rw e at (good-attribute s [] here (t .pool .names) .law at h)
+      abbrev fine : (at < n) × (n ≤ length s) × ItemFits (length s) (t .pool .names) i
+      fine = attribute-fits here s (t .pool .names) at i n h e
 
       pub attribute-small : ItemSmall i
       attribute-small = fits-small (length s) l (t .pool .names) i (fine .2)
 
       pub attribute-moves : at < n
-      attribute-moves = omega (arith, fine .0)
+      attribute-moves = fine .0
 
       pub attribute-within : n ≤ length s
       attribute-within = fine .1
 
-      pub bounded-more : (r : Tally) → Bounded at t → Counts i t r → Bounded n r
-      bounded-more r b c =
-          let few = item-adds (t .pool .names) i attribute-small in
-          record {
-            rows-bounded = omega (arith, fine .0, b .rows-bounded, c .rows-more);
-            added-bounded = omega (arith, few .0, b .added-bounded, c .added-more, c .rows-more);
-            bytes-bounded = omega (arith, few .1, b .bytes-bounded, c .bytes-more, c .rows-more);
-          }
+-- the attributes end before the input does, or with it
+module _ (finished : Bool) (s : List ℕ) (t : Tally) (at : ℕ) where
+  pub inside : at < length s → asTold t (outcome finished (whole at false)) ≡ asTold t (outcome finished (whole at (leb (length s) at)))
+  inside h = rw (lt-leb (length s) at h)
+
+  pub outside : length s ≤ at → asTold t (outcome finished (whole at true)) ≡ asTold t (outcome finished (whole at (leb (length s) at)))
+  outside h = rw (le-leb (length s) at h)
+
+-- what is left: these rows, measured after the tally, make M
+pub record Measuring (finished : Bool) (s : List ℕ) (S : ℕ → Bool) (table : List ℕ) (M : Measure) (is : Items) (t : Tally) : Type 0 where
+  pub same-sound : soundOf (t .pool) table ≡ S
+  pub measured : plus t (measure finished (t .pool .names) is) ≡ M
+
+module _ {finished : Bool} {s : List ℕ} {S : ℕ → Bool} {table : List ℕ} {M : Measure} {t : Tally} (at : ℕ) (g : Measuring finished s S table M (rest S s (t .pool .names) at) t) where
+  abbrev Left : Items → Type 0
+  Left is = Measuring finished s S table M is t
+
+  pub measuring-end : isAttribute s at ≡ false → asTold t (outcome finished (whole at (leb (length s) at))) ≡ M
+  measuring-end b = measure-whole finished t at _ ∙ turn-end Left S s (t .pool .names) at g b .measured
+
+  module _ (b : isAttribute s at ≡ true) where
+    same : (x : Read Item) → attribute (soundOf (t .pool) table) (t .pool .names) s at ≡ x → attribute S (t .pool .names) s at ≡ x
+    same x e = ap (λ (y : ℕ → Bool). attribute y (t .pool .names) s at) (sym (g .same-sound)) ∙ e
+
+    pub measuring-short : (j : ℕ) → attribute (soundOf (t .pool) table) (t .pool .names) s at ≡ short j → asTold t (outcome finished (lacks j)) ≡ M
+    measuring-short j e = measure-lacks finished t j ∙ turn-short Left S s (t .pool .names) at g b j (same _ e) .measured
+
+    pub measuring-stops : (n d : ℕ) → attribute (soundOf (t .pool) table) (t .pool .names) s at ≡ refused n d → asTold t (outcome finished (stops n d)) ≡ M
+    measuring-stops n d e = measure-stops finished t n d ∙ turn-stops Left S s (t .pool .names) at g b n d (same _ e) .measured
+
+    module _ (l : length s ≤ maxStore) (i : Item) (n : ℕ) (e : attribute (soundOf (t .pool) table) (t .pool .names) s at ≡ got i n) where
+      pub measuring-turn : Turn Left S s (t .pool .names) at i n
+      measuring-turn = turn-row Left S s (t .pool .names) at g b i n (same _ e)
+
+      pub measuring-small : ItemSmall i
+      measuring-small = fits-small (length s) l (t .pool .names) i (measuring-turn .fits)
+
+      -- with the row
+      module _ (r : Tally) (c : Counts i t r) where
+        pub measuring-bounded : Bounded at t → Bounded n r
+        measuring-bounded b =
+            let few = item-adds (t .pool .names) i measuring-small in
+            record {
+              rows-bounded = omega (arith, measuring-turn .moves, b .rows-bounded, c .rows-more);
+              added-bounded = omega (arith, few .0, b .added-bounded, c .added-more, c .rows-more);
+              bytes-bounded = omega (arith, few .1, b .bytes-bounded, c .bytes-more, c .rows-more);
+            }
+
+        pub measuring-next : Measuring finished s S table M (rest S s (r .pool .names) n) r
+        measuring-next =
+            left-names (λ is. Measuring finished s S table M is r) S s n _ _ (c .names-are)
+            (record {
+              same-sound = ap (λ (x : ℕ). sound x table (r .pool .stored)) (c .kept-stays) ∙ ap (λ (x : ℕ). sound (t .pool .kept) table x) (c .stored-stays) ∙ g .same-sound;
+              measured = measure-more finished t r i (rest S s (after (t .pool .names) i) n) c ∙ measuring-turn .left .measured;
+            })
 
 -- ---- the whole event
 
