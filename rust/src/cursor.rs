@@ -32,15 +32,24 @@ pub(crate) struct Rows<'a> {
 }
 
 impl<'a> Rows<'a> {
+    /// The first rows, those that a call has written. A slice reader's name store is empty.
+    fn written(buffers: &'a Buffers, count: usize, first: &'a [u8]) -> Rows<'a> {
+        Rows {
+            words: buffers.rows.get(..ROW * count).unwrap_or_default(),
+            first,
+            second: &buffers.store,
+        }
+    }
+
     /// That it is one event: a row, and, of a start tag, those of its attributes.
-    fn checked(self) -> Result<Rows<'a>> {
+    fn checked(self) -> Result<()> {
         let right = match self.words.first() {
             None => false,
             Some(&START_TAG) => true,
             Some(kind) => *kind <= DOC_DECL && self.words.len() == ROW,
         };
         if right {
-            Ok(self)
+            Ok(())
         } else {
             Err(AbxError::BadAnswer("rows that are no event"))
         }
@@ -311,7 +320,7 @@ impl<'d> SliceCursor<'d> {
             match checked::slice_next(self.place, self.document, pool, rows) {
                 Ok(None) => return Ok(false),
                 Ok(Some((count, place))) => {
-                    self.rows(count).checked()?;
+                    Rows::written(&self.buffers, count, self.document).checked()?;
                     self.place = place;
                     self.events += 1;
                     self.count = count;
@@ -322,29 +331,17 @@ impl<'d> SliceCursor<'d> {
         }
     }
 
-    fn rows(&self, count: usize) -> Rows<'_> {
-        Rows {
-            words: first_rows(&self.buffers, count),
-            first: self.document,
-            second: &[],
-        }
-    }
-
     /// The event that was read last.
     #[inline]
     pub(crate) fn event(&self) -> Option<EventRef<'_>> {
-        self.rows(self.count).event()
+        Rows::written(&self.buffers, self.count, self.document).event()
     }
 
     /// The same, as what a caller owns.
     #[inline]
     pub(crate) fn owned(&mut self) -> Result<Option<Event>> {
         let mut owner = Owner {
-            rows: Rows {
-                words: first_rows(&self.buffers, self.count),
-                first: self.document,
-                second: &[],
-            },
+            rows: Rows::written(&self.buffers, self.count, self.document),
             kept: IN_DOCUMENT,
             known: &mut self.known,
         };
@@ -359,11 +356,7 @@ impl<'d> SliceCursor<'d> {
             let Buffers { pool, rows, .. } = &mut self.buffers;
             let reached = checked::query(query, self.place, self.document, pool, rows)?;
             found(&mut Owner {
-                rows: Rows {
-                    words: first_rows(&self.buffers, reached.rows),
-                    first: self.document,
-                    second: &[],
-                },
+                rows: Rows::written(&self.buffers, reached.rows, self.document),
                 kept: IN_DOCUMENT,
                 known: &mut self.known,
             });
@@ -413,11 +406,6 @@ impl<'d> SliceCursor<'d> {
             }
         })
     }
-}
-
-/// The first rows, those that a call has written.
-fn first_rows(buffers: &Buffers, count: usize) -> &[u32] {
-    buffers.rows.get(..ROW * count).unwrap_or(&[])
 }
 
 // ---- the chunk reader
@@ -476,7 +464,7 @@ impl ChunkCursor {
             let Buffers { pool, rows, store } = &mut self.buffers;
             match checked::stream_next(&mut self.state, &self.window, pool, store, rows) {
                 Ok(Stepped::Event(count)) => {
-                    self.rows(count).checked()?;
+                    Rows::written(&self.buffers, count, &self.window).checked()?;
                     self.count = count;
                     return Ok(Stepped::Event(count));
                 }
@@ -487,29 +475,17 @@ impl ChunkCursor {
         }
     }
 
-    fn rows(&self, count: usize) -> Rows<'_> {
-        Rows {
-            words: first_rows(&self.buffers, count),
-            first: &self.window,
-            second: &self.buffers.store,
-        }
-    }
-
     /// The event that was read last, if there was no call since.
     #[inline]
     pub(crate) fn event(&self) -> Option<EventRef<'_>> {
-        self.rows(self.count).event()
+        Rows::written(&self.buffers, self.count, &self.window).event()
     }
 
     /// The same, as what a caller owns.
     #[inline]
     pub(crate) fn owned(&mut self) -> Result<Option<Event>> {
         let mut owner = Owner {
-            rows: Rows {
-                words: first_rows(&self.buffers, self.count),
-                first: &self.window,
-                second: &self.buffers.store,
-            },
+            rows: Rows::written(&self.buffers, self.count, &self.window),
             kept: IN_STORE,
             known: &mut self.known,
         };

@@ -109,7 +109,11 @@ pub fn events_to_abx(events: &[Event]) -> Result<Vec<u8>> {
     if encoder.fill(events)? == events.len() {
         match encoder.write(checked::write_events) {
             Err(AbxError::OutputFull) => {}
-            written => return encoder.into_document(written?),
+            written => {
+                // Nothing of the document was dropped yet.
+                encoder.output.truncate(written?.bytes);
+                return Ok(encoder.output);
+            }
         }
     }
     let mut document = encoder.header().to_vec();
@@ -171,8 +175,19 @@ impl Encoder {
     /// Writes the list after what is kept.
     fn write(&mut self, write: checked::Write) -> Result<Written> {
         self.make_room();
-        let (list, output) = (&self.list, &mut self.output);
-        write(self.kept, &list.store, &list.words, output, &mut self.pool)
+        loop {
+            let Encoder {
+                output, pool, list, ..
+            } = self;
+            let written = write(self.kept, &list.store, &list.words, output, pool);
+            match written {
+                Err(AbxError::OutputFull) if output.len() < MAX_OUTPUT => {
+                    let longer = (2 * output.len()).min(MAX_OUTPUT);
+                    at_least(output, longer);
+                }
+                written => return written,
+            }
+        }
     }
 
     /// What was written after what is kept.
@@ -223,13 +238,8 @@ impl Encoder {
         Ok(())
     }
 
-    /// The output as a document, of which nothing was dropped.
-    fn into_document(mut self, written: Written) -> Result<Vec<u8>> {
-        self.output.truncate(written.bytes);
-        Ok(self.output)
-    }
-
-    // As much as the list can take at most, so that it is not measured twice. Up to the library's limits, at which its refusal stands.
+    // As much as the list can take, so that it is not measured twice, but where a name comes again that the pool has no place for. Up to the library's
+    // limits, at which its refusal stands.
     fn make_room(&mut self) {
         let (rows, bytes) = (self.list.rows(), self.list.store.len());
         let bytes = self.kept.bytes + ROW_BYTES * rows + bytes;

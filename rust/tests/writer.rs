@@ -165,6 +165,25 @@ fn all_names_together_have_a_limit() {
     assert!(writer.as_bytes().ends_with(&bytes("33 0007")));
 }
 
+#[test]
+fn a_name_without_a_place_in_the_pool_is_written_each_time() {
+    let mut events: Vec<Event> = (0..MAX_NAMES).map(|i| end_tag(&format!("{i}"))).collect();
+    let names = events_to_abx(&events).unwrap().len();
+    let long = end_tag(&"n".repeat(2000));
+    events.extend(vec![long.clone(); 3000]);
+    let document = events_to_abx(&events).unwrap();
+    assert_eq!(document.len(), names + 3000 * 2005);
+    assert!(by_slice(&document) == (events.clone(), None));
+    // In one list, too, on a pool that was full before.
+    let mut writer = AbxWriter::new(vec![]).unwrap();
+    let (before, after) = events.split_at(MAX_NAMES);
+    writer.write_events(before).unwrap();
+    writer.write_events(after).unwrap();
+    assert!(writer.as_bytes() == document);
+    writer.write_events(&vec![long; 9000]).unwrap();
+    assert_eq!(writer.as_bytes().len(), names + 12_000 * 2005);
+}
+
 /// Takes a few bytes at a time, after an interruption each, and fails after so many.
 struct Narrow {
     taken: Vec<u8>,
