@@ -1,4 +1,4 @@
-//! The library's functions over slices: the only unsafe code, and the only place where they are declared for Rust. `include/abx.h` has
+//! The library's functions over slices: the only place where they are declared for Rust, and called. `include/abx.h` has
 //! the same list for C, and says what they answer.
 //!
 //! Why a call is sound. The functions have no precondition but the one that their types state: a slice is a pointer and the number
