@@ -251,6 +251,13 @@ fn take_event(
 
 // ---- an event that was read whole
 
+// What was measured of an event: its rows, its new names and its bytes.
+pub struct Extent {
+    pub rows: usize,
+    pub added: usize,
+    pub len: usize,
+}
+
 // How many rows are taken, by a copy of the pool's pairs that has the event's new names, too.
 fn count_by(
     own: &mut [u32],
@@ -262,12 +269,11 @@ fn count_by(
     names: usize,
     tokens: &[u16; 256],
     table: &[u32],
-    count: usize,
-    added: usize,
+    extent: Extent,
 ) -> usize
     requires { ⌜ 131_072 ≤ length (now own) ⌝ }
     requires { ⌜ now tokens ≡ builtIn ⌝ }
-    requires { ⌜ Whole (now document) (record { at = at; names = names }) (now table) (itemsAt (record { at = at; names = names }) (now document) (now table)) count added ⌝ }
+    requires { ⌜ Whole (now document) (record { at = at; names = names }) (now table) (itemsAt (record { at = at; names = names }) (now document) (now table)) (extent .rows) (extent .added) ⌝ }
     ensures { λ r. ⌜ r ≡ length (asked query (now (element .entry)) (now (name .entry)) (now (document .entry)) (record { at = at; names = names }) (now (table .entry)) (itemsAt (record { at = at; names = names }) (now (document .entry)) (now (table .entry)))) ⌝ }
 {
     let s = &document[at..];
@@ -306,14 +312,13 @@ fn count_taken(
     names: usize,
     tokens: &[u16; 256],
     table: &[u32],
-    count: usize,
-    added: usize,
+    extent: Extent,
 ) -> usize
     requires { ⌜ now tokens ≡ builtIn ⌝ }
-    requires { ⌜ Whole (now document) (record { at = at; names = names }) (now table) (itemsAt (record { at = at; names = names }) (now document) (now table)) count added ⌝ }
+    requires { ⌜ Whole (now document) (record { at = at; names = names }) (now table) (itemsAt (record { at = at; names = names }) (now document) (now table)) (extent .rows) (extent .added) ⌝ }
     ensures { λ r. ⌜ r ≡ length (asked query (now (element .entry)) (now (name .entry)) (now (document .entry)) (record { at = at; names = names }) (now (table .entry)) (itemsAt (record { at = at; names = names }) (now (document .entry)) (now (table .entry)))) ⌝ }
 {
-    if added == 0 {
+    if extent.added == 0 {
         let pool = Pool {
             kept: names,
             stored: document.len(),
@@ -347,8 +352,7 @@ fn count_taken(
         names,
         tokens,
         table,
-        count,
-        added,
+        extent,
     )
 }
 
@@ -393,12 +397,11 @@ fn hand_out(
     table: &mut [u32],
     rows: &mut [u32],
     written: usize,
-    count: usize,
-    added: usize,
+    extent: Extent,
 ) -> Took
     requires { ⌜ now tokens ≡ builtIn ⌝ }
-    requires { ⌜ Whole (now document) (record { at = at; names = names }) (now table) (itemsAt (record { at = at; names = names }) (now document) (now table)) count added ⌝ }
-    requires { ⌜ 2 * (names + added) ≤ length (now table) ⌝ }
+    requires { ⌜ Whole (now document) (record { at = at; names = names }) (now table) (itemsAt (record { at = at; names = names }) (now document) (now table)) (extent .rows) (extent .added) ⌝ }
+    requires { ⌜ 2 * (names + extent .added) ≤ length (now table) ⌝ }
     requires { ⌜ Room true (8 * written) (length (asked query (now element) (now name) (now document) (record { at = at; names = names }) (now table) (itemsAt (record { at = at; names = names }) (now document) (now table)))) (now rows) ⌝ }
     ensures { λ r. ⌜ Handed (now (document .entry)) (record { at = at; names = names }) (now (table .entry)) (now (table .exit)) (now (rows .entry)) (now (rows .exit)) (itemsAt (record { at = at; names = names }) (now (document .entry)) (now (table .entry))) written (asked query (now (element .entry)) (now (name .entry)) (now (document .entry)) (record { at = at; names = names }) (now (table .entry)) (itemsAt (record { at = at; names = names }) (now (document .entry)) (now (table .entry)))) (r .kind) (r .rows) ⌝ }
 {
@@ -408,7 +411,7 @@ fn hand_out(
         stored: document.len(),
         names,
     };
-    keep_added(s, at, tokens, table, pool, added);
+    keep_added(s, at, tokens, table, pool, extent.added);
     take_event(
         query,
         element,
@@ -447,16 +450,14 @@ fn pick_fitting(
     table: &mut [u32],
     rows: &mut [u32],
     written: usize,
-    count: usize,
-    added: usize,
-    len: usize,
+    extent: Extent,
 ) -> Picked
     requires { ⌜ now tokens ≡ builtIn ⌝ }
-    requires { ⌜ Whole (now document) (record { at = at; names = names }) (now table) (itemsAt (record { at = at; names = names }) (now document) (now table)) count added ⌝ }
+    requires { ⌜ Whole (now document) (record { at = at; names = names }) (now table) (itemsAt (record { at = at; names = names }) (now document) (now table)) (extent .rows) (extent .added) ⌝ }
     requires { ⌜ written + length (asked query (now element) (now name) (now document) (record { at = at; names = names }) (now table) (itemsAt (record { at = at; names = names }) (now document) (now table))) ≤ length (now rows) / 8 ⌝ }
-    ensures { λ r. ⌜ ((events : ℕ) → turnOf (progress at names (now (table .entry)) (now (rows .entry)) events written) (now (table .exit)) (now (rows .exit)) r ≡ passing (progress at names (now (table .entry)) (now (rows .entry)) events written) (kindOf (itemsAt (record { at = at; names = names }) (now (document .entry)) (now (table .entry)))) len (adds names (itemsAt (record { at = at; names = names }) (now (document .entry)) (now (table .entry)))) (asked query (now (element .entry)) (now (name .entry)) (now (document .entry)) (record { at = at; names = names }) (now (table .entry)) (itemsAt (record { at = at; names = names }) (now (document .entry)) (now (table .entry))))) ⌝ }
+    ensures { λ r. ⌜ ((events : ℕ) → turnOf (progress at names (now (table .entry)) (now (rows .entry)) events written) (now (table .exit)) (now (rows .exit)) r ≡ passing (progress at names (now (table .entry)) (now (rows .entry)) events written) (kindOf (itemsAt (record { at = at; names = names }) (now (document .entry)) (now (table .entry)))) (extent .len) (adds names (itemsAt (record { at = at; names = names }) (now (document .entry)) (now (table .entry)))) (asked query (now (element .entry)) (now (name .entry)) (now (document .entry)) (record { at = at; names = names }) (now (table .entry)) (itemsAt (record { at = at; names = names }) (now (document .entry)) (now (table .entry))))) ⌝ }
 {
-    if table.len() / 2 - names < added {
+    if table.len() / 2 - names < extent.added {
         return Picked::Refused(Refusal::new(Refusal::POOL_FULL));
     }
     let took = hand_out(
@@ -470,13 +471,12 @@ fn pick_fitting(
         table,
         rows,
         written,
-        count,
-        added,
+        extent,
     );
     Picked::Event {
         kind: took.kind,
-        len,
-        added,
+        len: extent.len,
+        added: extent.added,
         rows: took.rows,
     }
 }
@@ -493,19 +493,17 @@ fn pick_surely(
     table: &mut [u32],
     rows: &mut [u32],
     written: usize,
-    count: usize,
-    added: usize,
-    len: usize,
+    extent: Extent,
 ) -> Uncounted
     requires { ⌜ now tokens ≡ builtIn ⌝ }
-    requires { ⌜ Whole (now document) (record { at = at; names = names }) (now table) (itemsAt (record { at = at; names = names }) (now document) (now table)) count added ⌝ }
-    ensures { λ r. ⌜ ((events : ℕ) → uncountedOf (progress at names (now (table .entry)) (now (rows .entry)) events written) (now (table .exit)) (now (rows .exit)) r ≡ cond (inDoubt (length (now (rows .entry)) / 8) written (mostOf query count)) (unsure (progress at names (now (table .entry)) (now (rows .entry)) events written)) (turned (passing (progress at names (now (table .entry)) (now (rows .entry)) events written) (kindOf (itemsAt (record { at = at; names = names }) (now (document .entry)) (now (table .entry)))) len (adds names (itemsAt (record { at = at; names = names }) (now (document .entry)) (now (table .entry)))) (asked query (now (element .entry)) (now (name .entry)) (now (document .entry)) (record { at = at; names = names }) (now (table .entry)) (itemsAt (record { at = at; names = names }) (now (document .entry)) (now (table .entry))))))) ⌝ }
+    requires { ⌜ Whole (now document) (record { at = at; names = names }) (now table) (itemsAt (record { at = at; names = names }) (now document) (now table)) (extent .rows) (extent .added) ⌝ }
+    ensures { λ r. ⌜ ((events : ℕ) → uncountedOf (progress at names (now (table .entry)) (now (rows .entry)) events written) (now (table .exit)) (now (rows .exit)) r ≡ cond (inDoubt (length (now (rows .entry)) / 8) written (mostOf query (extent .rows))) (unsure (progress at names (now (table .entry)) (now (rows .entry)) events written)) (turned (passing (progress at names (now (table .entry)) (now (rows .entry)) events written) (kindOf (itemsAt (record { at = at; names = names }) (now (document .entry)) (now (table .entry)))) (extent .len) (adds names (itemsAt (record { at = at; names = names }) (now (document .entry)) (now (table .entry)))) (asked query (now (element .entry)) (now (name .entry)) (now (document .entry)) (record { at = at; names = names }) (now (table .entry)) (itemsAt (record { at = at; names = names }) (now (document .entry)) (now (table .entry))))))) ⌝ }
 {
     let room = rows.len() / 8;
     if room < written {
         return Uncounted::Picked(Picked::Refused(Refusal::new(Refusal::ROWS_FULL)));
     }
-    if is_short(room, written, most_taken(query, count)) {
+    if is_short(room, written, most_taken(query, extent.rows)) {
         return Uncounted::Unsure;
     }
     Uncounted::Picked(pick_fitting(
@@ -519,9 +517,7 @@ fn pick_surely(
         table,
         rows,
         written,
-        count,
-        added,
-        len,
+        extent,
     ))
 }
 
@@ -537,14 +533,13 @@ fn count_at_need(
     table: &[u32],
     room: usize,
     written: usize,
-    count: usize,
-    added: usize,
+    extent: Extent,
 ) -> usize
     requires { ⌜ now tokens ≡ builtIn ⌝ }
-    requires { ⌜ Whole (now document) (record { at = at; names = names }) (now table) (itemsAt (record { at = at; names = names }) (now document) (now table)) count added ⌝ }
+    requires { ⌜ Whole (now document) (record { at = at; names = names }) (now table) (itemsAt (record { at = at; names = names }) (now document) (now table)) (extent .rows) (extent .added) ⌝ }
     ensures { λ r. ⌜ ltb room (written + r) ≡ ltb room (written + length (asked query (now (element .entry)) (now (name .entry)) (now (document .entry)) (record { at = at; names = names }) (now (table .entry)) (itemsAt (record { at = at; names = names }) (now (document .entry)) (now (table .entry))))) ⌝ }
 {
-    let most = most_taken(query, count);
+    let most = most_taken(query, extent.rows);
     if is_short(room, written, most) {
         return count_taken(
             query,
@@ -555,8 +550,7 @@ fn count_at_need(
             names,
             tokens,
             table,
-            count,
-            added,
+            extent,
         );
     }
     most
@@ -574,13 +568,11 @@ fn pick_counted(
     table: &mut [u32],
     rows: &mut [u32],
     written: usize,
-    count: usize,
-    added: usize,
-    len: usize,
+    extent: Extent,
 ) -> Picked
     requires { ⌜ now tokens ≡ builtIn ⌝ }
-    requires { ⌜ Whole (now document) (record { at = at; names = names }) (now table) (itemsAt (record { at = at; names = names }) (now document) (now table)) count added ⌝ }
-    ensures { λ r. ⌜ ((events : ℕ) → turnOf (progress at names (now (table .entry)) (now (rows .entry)) events written) (now (table .exit)) (now (rows .exit)) r ≡ passing (progress at names (now (table .entry)) (now (rows .entry)) events written) (kindOf (itemsAt (record { at = at; names = names }) (now (document .entry)) (now (table .entry)))) len (adds names (itemsAt (record { at = at; names = names }) (now (document .entry)) (now (table .entry)))) (asked query (now (element .entry)) (now (name .entry)) (now (document .entry)) (record { at = at; names = names }) (now (table .entry)) (itemsAt (record { at = at; names = names }) (now (document .entry)) (now (table .entry))))) ⌝ }
+    requires { ⌜ Whole (now document) (record { at = at; names = names }) (now table) (itemsAt (record { at = at; names = names }) (now document) (now table)) (extent .rows) (extent .added) ⌝ }
+    ensures { λ r. ⌜ ((events : ℕ) → turnOf (progress at names (now (table .entry)) (now (rows .entry)) events written) (now (table .exit)) (now (rows .exit)) r ≡ passing (progress at names (now (table .entry)) (now (rows .entry)) events written) (kindOf (itemsAt (record { at = at; names = names }) (now (document .entry)) (now (table .entry)))) (extent .len) (adds names (itemsAt (record { at = at; names = names }) (now (document .entry)) (now (table .entry)))) (asked query (now (element .entry)) (now (name .entry)) (now (document .entry)) (record { at = at; names = names }) (now (table .entry)) (itemsAt (record { at = at; names = names }) (now (document .entry)) (now (table .entry))))) ⌝ }
 {
     let room = rows.len() / 8;
     let n = count_at_need(
@@ -594,8 +586,7 @@ fn pick_counted(
         table,
         room,
         written,
-        count,
-        added,
+        extent,
     );
     if is_short(room, written, n) {
         return Picked::Refused(Refusal::new(Refusal::ROWS_FULL));
@@ -611,9 +602,7 @@ fn pick_counted(
         table,
         rows,
         written,
-        count,
-        added,
-        len,
+        extent,
     )
 }
 
@@ -681,9 +670,11 @@ pub fn pick_uncounted(
             table,
             rows,
             written,
-            count,
-            added,
-            len,
+            Extent {
+                rows: count,
+                added,
+                len,
+            },
         ),
         Seen::End => Uncounted::Picked(Picked::End),
         Seen::Refused(r) => Uncounted::Picked(Picked::Refused(r)),
@@ -721,9 +712,11 @@ pub fn pick(
             table,
             rows,
             written,
-            count,
-            added,
-            len,
+            Extent {
+                rows: count,
+                added,
+                len,
+            },
         ),
         Seen::End => Picked::End,
         Seen::Refused(r) => Picked::Refused(r),

@@ -29,7 +29,7 @@ returns-2 c =
     let pl : Place = record { at = a .at; names = a .names } in
     let enough = sym (c .before .is-short .ensures) ∙ c .if1 .left in
     let sure = ap (λ (n : ℕ). ltb (a .room) (a .written + n)) (sym (c .before .before .most-taken .ensures)) ∙ enough in
-    enough ∙ sym (le-ltb (a .room) (a .written + _) (surely (a .document .now) pl (a .table .now) (a .count) (a .added) (p .1) (a .query) (a .element .now) (a .name .now) (a .room) (a .written) sure))
+    enough ∙ sym (le-ltb (a .room) (a .written + _) (surely (a .document .now) pl (a .table .now) (a .extent .rows) (a .extent .added) (p .1) (a .query) (a .element .now) (a .name .now) (a .room) (a .written) sure))
 
 pub count-at-need-spec : {M : Type 1} → statement M
 count-at-need-spec = tie.close (tie.spec most-taken-requires is-short-requires count-taken-requires returns returns-2)

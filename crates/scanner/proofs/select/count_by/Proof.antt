@@ -30,10 +30,10 @@ keep-requires c κs =
     let pl : Place = record { at = a .at; names = a .names } in
     let w = p .1 .1 in
     let own = a .own .now in
-    let begins = copy-begins (a .document .now) pl (a .table .now) (a .count) (a .added) w own _ (p .0) (c .before .before .before .put-words .ensures) in
-    let sounds = copy-sounds (a .document .now) pl (a .table .now) (a .count) (a .added) w own _ (p .0) (c .before .before .before .put-words .ensures) in
-    let room = copy-room (a .document .now) pl (a .table .now) (a .count) (a .added) w own _ (p .0) (c .before .before .before .put-words .ensures) in
-    (p .1 .0, keepable (a .document .now) pl (a .table .now) (a .count) (a .added) w _ sounds room)
+    let begins = copy-begins (a .document .now) pl (a .table .now) (a .extent .rows) (a .extent .added) w own _ (p .0) (c .before .before .before .put-words .ensures) in
+    let sounds = copy-sounds (a .document .now) pl (a .table .now) (a .extent .rows) (a .extent .added) w own _ (p .0) (c .before .before .before .put-words .ensures) in
+    let room = copy-room (a .document .now) pl (a .table .now) (a .extent .rows) (a .extent .added) w own _ (p .0) (c .before .before .before .put-words .ensures) in
+    (p .1 .0, keepable (a .document .now) pl (a .table .now) (a .extent .rows) (a .extent .added) w _ sounds room)
 
 slice-aggregate-take-event : tie.Need-slice-aggregate-take-event
 slice-aggregate-take-event c = search needs
@@ -45,10 +45,10 @@ take-event-requires c κs =
     let pl : Place = record { at = a .at; names = a .names } in
     let w = p .1 .1 in
     let own = a .own .now in
-    let begins = copy-begins (a .document .now) pl (a .table .now) (a .count) (a .added) w own _ (p .0) (c .before .before .before .before .before .before .before .before .put-words .ensures) in
-    let sounds = copy-sounds (a .document .now) pl (a .table .now) (a .count) (a .added) w own _ (p .0) (c .before .before .before .before .before .before .before .before .put-words .ensures) in
-    let room = copy-room (a .document .now) pl (a .table .now) (a .count) (a .added) w own _ (p .0) (c .before .before .before .before .before .before .before .before .put-words .ensures) in
-    let k = stored-keepable (a .document .now) pl (a .table .now) (a .count) (a .added) w _ begins sounds room _ (c .before .before .before .before .keep .ensures) in
+    let begins = copy-begins (a .document .now) pl (a .table .now) (a .extent .rows) (a .extent .added) w own _ (p .0) (c .before .before .before .before .before .before .before .before .put-words .ensures) in
+    let sounds = copy-sounds (a .document .now) pl (a .table .now) (a .extent .rows) (a .extent .added) w own _ (p .0) (c .before .before .before .before .before .before .before .before .put-words .ensures) in
+    let room = copy-room (a .document .now) pl (a .table .now) (a .extent .rows) (a .extent .added) w own _ (p .0) (c .before .before .before .before .before .before .before .before .put-words .ensures) in
+    let k = stored-keepable (a .document .now) pl (a .table .now) (a .extent .rows) (a .extent .added) w _ begins sounds room _ (c .before .before .before .before .keep .ensures) in
     (p .1 .0, (k, (record { fits = λ t. absurd (let z : _≡_ {A = ℕ} 0 1 = cc t in omega arith); sized = omega arith; counts = λ _. omega arith }, λ _. refl)))
 
 same-length : tie.Need-same-length
@@ -61,10 +61,10 @@ returns c =
     let pl : Place = record { at = a .at; names = a .names } in
     let w = p .1 .1 in
     let own = a .own .now in
-    let begins = copy-begins (a .document .now) pl (a .table .now) (a .count) (a .added) w own _ (p .0) (c .before .before .before .before .before .before .before .before .before .before .put-words .ensures) in
-    let sounds = copy-sounds (a .document .now) pl (a .table .now) (a .count) (a .added) w own _ (p .0) (c .before .before .before .before .before .before .before .before .before .before .put-words .ensures) in
-    let room = copy-room (a .document .now) pl (a .table .now) (a .count) (a .added) w own _ (p .0) (c .before .before .before .before .before .before .before .before .before .before .put-words .ensures) in
-    let z = asked-by (a .document .now) pl (a .table .now) (a .count) (a .added) w (a .query) (a .element .now) (a .name .now) _ _ (stored-rows (a .document .now) pl (a .table .now) (a .count) (a .added) w _ begins sounds room _ (c .before .before .before .before .before .before .keep .ensures)) in
+    let begins = copy-begins (a .document .now) pl (a .table .now) (a .extent .rows) (a .extent .added) w own _ (p .0) (c .before .before .before .before .before .before .before .before .before .before .put-words .ensures) in
+    let sounds = copy-sounds (a .document .now) pl (a .table .now) (a .extent .rows) (a .extent .added) w own _ (p .0) (c .before .before .before .before .before .before .before .before .before .before .put-words .ensures) in
+    let room = copy-room (a .document .now) pl (a .table .now) (a .extent .rows) (a .extent .added) w own _ (p .0) (c .before .before .before .before .before .before .before .before .before .before .put-words .ensures) in
+    let z = asked-by (a .document .now) pl (a .table .now) (a .extent .rows) (a .extent .added) w (a .query) (a .element .now) (a .name .now) _ _ (stored-rows (a .document .now) pl (a .table .now) (a .extent .rows) (a .extent .added) w _ begins sounds room _ (c .before .before .before .before .before .before .keep .ensures)) in
     c .before .take-event .ensures .0 .counted ∙ ap length z
 
 pub count-by-spec : {M : Type 1} → statement M

@@ -22,27 +22,27 @@ slice-aggregate-take-event c = search needs
 
 take-event-requires : tie.Need-take-event-requires
 take-event-requires c κs =
-    let a = c .before .before .before .before .before .before .before .args in
-    let p = c .before .before .before .before .before .before .before .pre in
+    let a = c .before .before .before .before .before .before .before .before .args in
+    let p = c .before .before .before .before .before .before .before .before .pre in
     let pl : Place = record { at = a .at; names = a .names } in
     let w = p .1 in
-    (p .0, (kept-keepable (a .document .now) pl (a .table .now) (a .count) (a .added) w (c .before .before .if1 .taken), (record { fits = λ t. absurd (let z : _≡_ {A = ℕ} 0 1 = cc t in omega arith); sized = omega arith; counts = λ _. omega arith }, λ _. refl)))
+    (p .0, (kept-keepable (a .document .now) pl (a .table .now) (a .extent .rows) (a .extent .added) w (c .before .before .if1 .taken), (record { fits = λ t. absurd (let z : _≡_ {A = ℕ} 0 1 = cc t in omega arith); sized = omega arith; counts = λ _. omega arith }, λ _. refl)))
 
 returns : tie.Need-returns
 returns c =
-    let a = c .before .before .before .before .before .before .before .before .before .args in
-    let p = c .before .before .before .before .before .before .before .before .before .pre in
+    let a = c .before .before .before .before .before .before .before .before .before .before .args in
+    let p = c .before .before .before .before .before .before .before .before .before .before .pre in
     let pl : Place = record { at = a .at; names = a .names } in
     let w = p .1 in
-    c .before .take-event .ensures .0 .counted ∙ ap length (asked-by (a .document .now) pl (a .table .now) (a .count) (a .added) w (a .query) (a .element .now) (a .name .now) _ _ (kept-rows (a .document .now) pl (a .table .now) (a .count) (a .added) w (c .before .before .before .before .if1 .taken)))
+    c .before .take-event .ensures .0 .counted ∙ ap length (asked-by (a .document .now) pl (a .table .now) (a .extent .rows) (a .extent .added) w (a .query) (a .element .now) (a .name .now) _ _ (kept-rows (a .document .now) pl (a .table .now) (a .extent .rows) (a .extent .added) w (c .before .before .before .before .if1 .taken)))
 
 slice-aggregate-count-by : tie.Need-slice-aggregate-count-by
 slice-aggregate-count-by c = search needs
 
 count-by-requires : tie.Need-count-by-requires
 count-by-requires c κs =
-    let a = c .before .before .before .before .before .before .args in
-    let p = c .before .before .before .before .before .before .pre in
+    let a = c .before .before .before .before .before .before .before .args in
+    let p = c .before .before .before .before .before .before .before .pre in
     let pl : Place = record { at = a .at; names = a .names } in
     let w = p .1 in
     (omega arith, (p .0, w))

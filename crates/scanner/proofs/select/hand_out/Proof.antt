@@ -23,8 +23,8 @@ keep-added-requires c κs =
     let p = c .before .before .before .before .before .before .before .pre in
     let pl : Place = record { at = a .at; names = a .names } in
     let w = p .1 .0 in
-    let room = more-room (a .document .now) pl (a .table .now) (a .count) (a .added) w (p .1 .1 .0) in
-    (p .0, (keepable (a .document .now) pl (a .table .now) (a .count) (a .added) w _ refl room, added-are (a .document .now) pl (a .table .now) (a .count) (a .added) w _ refl))
+    let room = more-room (a .document .now) pl (a .table .now) (a .extent .rows) (a .extent .added) w (p .1 .1 .0) in
+    (p .0, (keepable (a .document .now) pl (a .table .now) (a .extent .rows) (a .extent .added) w _ refl room, added-are (a .document .now) pl (a .table .now) (a .extent .rows) (a .extent .added) w _ refl))
 
 mul-take-event : tie.Need-mul-take-event
 mul-take-event c =
@@ -32,7 +32,7 @@ mul-take-event c =
     let p = c .before .before .before .before .before .before .before .before .before .before .before .before .pre in
     let pl : Place = record { at = a .at; names = a .names } in
     let w = p .1 .0 in
-    let room = more-room (a .document .now) pl (a .table .now) (a .count) (a .added) w (p .1 .1 .0) in
+    let room = more-room (a .document .now) pl (a .table .now) (a .extent .rows) (a .extent .added) w (p .1 .1 .0) in
     omega (arith, p .1 .1 .1 .fits refl, p .1 .1 .1 .sized)
 
 take-event-requires : tie.Need-take-event-requires
@@ -41,9 +41,9 @@ take-event-requires c κs =
     let p = c .before .before .before .before .before .before .before .before .before .before .before .before .pre in
     let pl : Place = record { at = a .at; names = a .names } in
     let w = p .1 .0 in
-    let room = more-room (a .document .now) pl (a .table .now) (a .count) (a .added) w (p .1 .1 .0) in
-    let k = stored-keepable (a .document .now) pl (a .table .now) (a .count) (a .added) w _ refl refl room _ (c .before .before .before .before .keep-added .ensures) in
-    let n = ap length (asked-by (a .document .now) pl (a .table .now) (a .count) (a .added) w (a .query) (a .element .now) (a .name .now) _ _ (stored-rows (a .document .now) pl (a .table .now) (a .count) (a .added) w _ refl refl room _ (c .before .before .before .before .keep-added .ensures))) in
+    let room = more-room (a .document .now) pl (a .table .now) (a .extent .rows) (a .extent .added) w (p .1 .1 .0) in
+    let k = stored-keepable (a .document .now) pl (a .table .now) (a .extent .rows) (a .extent .added) w _ refl refl room _ (c .before .before .before .before .keep-added .ensures) in
+    let n = ap length (asked-by (a .document .now) pl (a .table .now) (a .extent .rows) (a .extent .added) w (a .query) (a .element .now) (a .name .now) _ _ (stored-rows (a .document .now) pl (a .table .now) (a .extent .rows) (a .extent .added) w _ refl refl room _ (c .before .before .before .before .keep-added .ensures))) in
     (p .0, (k, (rw n (p .1 .1 .1), (λ t. absurd (let z : _≡_ {A = ℕ} 0 1 = cc t in omega arith)))))
 
 same-length : tie.Need-same-length
@@ -58,9 +58,9 @@ returns c =
     let p = c .before .before .before .before .before .before .before .before .before .before .before .before .before .before .before .pre in
     let pl : Place = record { at = a .at; names = a .names } in
     let w = p .1 .0 in
-    let room = more-room (a .document .now) pl (a .table .now) (a .count) (a .added) w (p .1 .1 .0) in
-    let z = asked-by (a .document .now) pl (a .table .now) (a .count) (a .added) w (a .query) (a .element .now) (a .name .now) _ _ (stored-rows (a .document .now) pl (a .table .now) (a .count) (a .added) w _ refl refl room _ (c .before .before .before .before .before .before .before .keep-added .ensures)) in
-    record { chose = rw z at (c .before .before .take-event .ensures .0); kind-is = c .before .before .take-event .ensures .1 ∙ stored-kind (a .document .now) pl (a .table .now) (a .count) (a .added) w _ refl refl room _ (c .before .before .before .before .before .before .before .keep-added .ensures); table-is = stored-table (a .document .now) pl (a .table .now) (a .count) (a .added) w _ refl refl room _ (c .before .before .before .before .before .before .before .keep-added .ensures) }
+    let room = more-room (a .document .now) pl (a .table .now) (a .extent .rows) (a .extent .added) w (p .1 .1 .0) in
+    let z = asked-by (a .document .now) pl (a .table .now) (a .extent .rows) (a .extent .added) w (a .query) (a .element .now) (a .name .now) _ _ (stored-rows (a .document .now) pl (a .table .now) (a .extent .rows) (a .extent .added) w _ refl refl room _ (c .before .before .before .before .before .before .before .keep-added .ensures)) in
+    record { chose = rw z at (c .before .before .take-event .ensures .0); kind-is = c .before .before .take-event .ensures .1 ∙ stored-kind (a .document .now) pl (a .table .now) (a .extent .rows) (a .extent .added) w _ refl refl room _ (c .before .before .before .before .before .before .before .keep-added .ensures); table-is = stored-table (a .document .now) pl (a .table .now) (a .extent .rows) (a .extent .added) w _ refl refl room _ (c .before .before .before .before .before .before .before .keep-added .ensures) }
 
 pub hand-out-spec : {M : Type 1} → statement M
 hand-out-spec =

@@ -25,7 +25,7 @@ returns c =
     let pl : Place = record { at = a .at; names = a .names } in
     let w = p .1 in
     let short = sym (c .before .before .before .count-at-need .ensures) ∙ sym (c .before .before .is-short .ensures) in
-    λ events. few-rows (a .document .now) pl (a .table .now) (a .count) (a .added) w (a .query) (a .element .now) (a .name .now) (a .rows .now) events (a .written) (a .len) _ _ (short ∙ c .before .if1 .taken) (c .new .ensures .0) (c .new .ensures .1)
+    λ events. few-rows (a .document .now) pl (a .table .now) (a .extent .rows) (a .extent .added) w (a .query) (a .element .now) (a .name .now) (a .rows .now) events (a .written) (a .extent .len) _ _ (short ∙ c .before .if1 .taken) (c .new .ensures .0) (c .new .ensures .1)
 
 pick-fitting-requires : tie.Need-pick-fitting-requires
 pick-fitting-requires c κs =

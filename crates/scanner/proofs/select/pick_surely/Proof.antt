@@ -21,7 +21,7 @@ returns c =
     let pl : Place = record { at = a .at; names = a .names } in
     let w = p .1 in
     let none = c .before .if1 .taken in
-    λ events. rw (lt-ltb (length (a .rows .now) / 8) (a .written) none) (ap turned (few-rows (a .document .now) pl (a .table .now) (a .count) (a .added) w (a .query) (a .element .now) (a .name .now) (a .rows .now) events (a .written) (a .len) _ _ (lt-ltb (length (a .rows .now) / 8) (a .written + _) (omega arith)) (c .new .ensures .0) (c .new .ensures .1)))
+    λ events. rw (lt-ltb (length (a .rows .now) / 8) (a .written) none) (ap turned (few-rows (a .document .now) pl (a .table .now) (a .extent .rows) (a .extent .added) w (a .query) (a .element .now) (a .name .now) (a .rows .now) events (a .written) (a .extent .len) _ _ (lt-ltb (length (a .rows .now) / 8) (a .written + _) (omega arith)) (c .new .ensures .0) (c .new .ensures .1)))
 
 most-taken-requires : tie.Need-most-taken-requires
 most-taken-requires c κs = search needs
@@ -42,7 +42,7 @@ pick-fitting-requires c κs =
     let pl : Place = record { at = a .at; names = a .names } in
     let w = p .1 in
     let short = ap (λ (n : ℕ). ltb (length (a .rows .now) / 8) (a .written + n)) (sym (c .before .before .before .before .most-taken .ensures)) ∙ sym (c .before .before .before .is-short .ensures) in
-    (p .0, (w, surely (a .document .now) pl (a .table .now) (a .count) (a .added) w (a .query) (a .element .now) (a .name .now) (length (a .rows .now) / 8) (a .written) (short ∙ c .before .before .if2 .left)))
+    (p .0, (w, surely (a .document .now) pl (a .table .now) (a .extent .rows) (a .extent .added) w (a .query) (a .element .now) (a .name .now) (length (a .rows .now) / 8) (a .written) (short ∙ c .before .before .if2 .left)))
 
 same-length : tie.Need-same-length
 same-length c = search needs
