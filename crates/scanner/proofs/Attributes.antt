@@ -18,7 +18,7 @@ use Rattle.scanner.specs.Answers.{Trusted}
 use Rattle.grammar.specs.Binds.{Got}
 use Rattle.scanner.specs.Keep.{Ended, Keepable}
 use Rattle.scanner.specs.Turn.{soundOf, isAttribute}
-use Rattle.scanner.specs.declared.Pool.{Pool}
+use Rattle.scanner.specs.declared.fields.Pool.{Pool}
 use Rattle.grammar.specs.Rows.{command-is}
 
 -- an attribute stands there, or none does

@@ -21,7 +21,7 @@ use Rattle.grammar.specs.Said.{item-length}
 use Rattle.grammar.specs.Laws.{ItemFits}
 use Rattle.grammar.specs.Stores.{sets-append}
 use Rattle.slice_spec.specs.Queries.{Words, named, isElement, concat, kindOf}
-use Rattle.scanner.specs.declared.Pool.{Pool}
+use Rattle.scanner.specs.declared.fields.Pool.{Pool}
 use Rattle.scanner.specs.Keep.{PoolAfter, Keepable, ItemPlaced}
 use Rattle.grammar.specs.Turn.{rest}
 use Rattle.scanner.specs.Turn.{soundOf, isAttribute}

@@ -24,7 +24,7 @@ use Rattle.grammar.specs.Binds.{Got}
 use Rattle.grammar.specs.Rows.{asAttribute}
 use Rattle.scanner.specs.Keep.{PoolAfter, ItemPlaced, Keepable, Writable, There, wordsOf}
 use Rattle.scanner.specs.Fill.{Has, Once, Fillable, Stored, SpanPlain, WordPlain, PairPlain, RefFilled, ValueFilled, RowFilled}
-use Rattle.scanner.specs.declared.Pool.{Pool}
+use Rattle.scanner.specs.declared.fields.Pool.{Pool}
 use Rattle.scanner.specs.declared.fill.Filled.{Filled}
 use Rattle.scanner.specs.declared.fill.Ahead.{Ahead}
 use Rattle.grammar.specs.Rows.{name-within, attribute-is, attribute-name, attribute-value}

@@ -17,7 +17,7 @@ use Rattle.scanner.specs.Answers.{asText, asInterned}
 use Rattle.grammar.specs.Rows.{asAttribute}
 use Rattle.scanner.specs.Lean.{pastRef, pastSpan, pastName, pastItem, pastValue, PassedItem}
 use Rattle.scanner.specs.Tally.{RefSmall, ValueSmall, Small, Bounded, Joins}
-use Rattle.scanner.specs.declared.Tally.{Tally}
+use Rattle.scanner.specs.declared.measure.Tally.{Tally}
 use Rattle.scanner.specs.declared.lean.Past.{Past}
 use Rattle.scanner.proofs.Tallies.{joins-none, new-added, new-bytes, counts, ref-adds}
 use Rattle.scanner.proofs.Rest.{ref-small, attribute-small}

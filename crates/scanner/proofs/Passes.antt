@@ -11,7 +11,7 @@ use Rattle.grammar.specs.Scan.{sound, adds, pairs, copiedPairs, joined, words, 
 use Rattle.grammar.specs.Laws.{agree-event}
 use Rattle.grammar.specs.Added.{AllIn, adds-in}
 use Rattle.grammar.specs.Stores.{sound-sets, pairs-length, copied-length}
-use Rattle.scanner.specs.declared.Pool.{Pool}
+use Rattle.scanner.specs.declared.fields.Pool.{Pool}
 use Rattle.wire.specs.Limits.{maxStore}
 use Rattle.scanner.specs.Keep.{moved, carried, Movable, Ended, Writable, Copyable, Copied}
 use Rattle.scanner.specs.Turn.{soundOf}

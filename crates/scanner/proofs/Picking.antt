@@ -25,7 +25,7 @@ use Rattle.slice_spec.specs.Bounds.{Fits, fits}
 use Rattle.slice_spec.specs.Stored.{words-front}
 use Rattle.slice_spec.specs.Whole.{countedName-most, countedValue-most}
 use Rattle.slice_spec.specs.Turns.{Turn, passed, halted, passing, turnBy, turnOrRefuse}
-use Rattle.scanner.specs.declared.Pool.{Pool}
+use Rattle.scanner.specs.declared.fields.Pool.{Pool}
 use Rattle.wire.specs.Limits.{maxStore}
 use Rattle.scanner.specs.Keep.{Keepable}
 use Rattle.scanner.specs.Turn.{soundOf}

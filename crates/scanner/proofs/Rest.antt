@@ -17,9 +17,9 @@ use Rattle.grammar.specs.Turn.{rest, attribute-fits}
 use Rattle.grammar.specs.Scan.{sound, Outcome, adds, count, lengths, outcome, Measure, measure}
 use Rattle.wire.specs.Limits.{maxStore}
 use Rattle.scanner.specs.Tally.{RefSmall, NameSmall, ValueSmall, ItemSmall, Bounded, Counts, plus}
-use Rattle.scanner.specs.declared.Pool.{Pool}
+use Rattle.scanner.specs.declared.fields.Pool.{Pool}
 use Rattle.scanner.specs.Turn.{soundOf, isAttribute}
-use Rattle.scanner.specs.declared.Tally.{Tally}
+use Rattle.scanner.specs.declared.measure.Tally.{Tally}
 use Rattle.scanner.proofs.Attributes.{Turn, turn-end, turn-row, turn-short, turn-stops, left-names}
 use Rattle.scanner.proofs.Tallies.{lengths-append, item-adds}
 

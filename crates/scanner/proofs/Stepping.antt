@@ -10,7 +10,7 @@ use lib.ListN.{length}
 use Rattle.wire.specs.Refusal.{rowsFull, poolFull, namesFull, badSize, badState}
 use Rattle.grammar.specs.Grammar.{Span, Items, event}
 use Rattle.grammar.specs.Scan.{sound, adds, lengths, count, words, complete, incomplete, bad, outcome, Measure, measure}
-use Rattle.scanner.specs.declared.Pool.{Pool}
+use Rattle.scanner.specs.declared.fields.Pool.{Pool}
 use Rattle.wire.specs.Limits.{maxStore}
 use Rattle.scanner.specs.Keep.{Writable, Copyable, There, Copied}
 use Rattle.scanner.specs.Step.{Reply, gives, needMore, refused, Left, written, handOut, byOutcome, Ready, readBy, tooLong, outside, step}

@@ -13,7 +13,7 @@ use Rattle.grammar.specs.Scan.{addsRef, addsName, addsValue, addsItem, lengths}
 use Rattle.grammar.specs.Choice.{byTest}
 use Rattle.wire.specs.Limits.{maxStore}
 use Rattle.scanner.specs.Tally.{RefSmall, NameSmall, ValueSmall, ItemSmall, Joins, Counts}
-use Rattle.scanner.specs.declared.Tally.{Tally}
+use Rattle.scanner.specs.declared.measure.Tally.{Tally}
 
 pub joins-none : (t : Tally) → Joins 0 0 (t .pool .names) t t
 joins-none t =

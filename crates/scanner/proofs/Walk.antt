@@ -19,7 +19,7 @@ use Rattle.grammar.specs.Added.{countedName-adds, countedValue-adds, after-adds
 use Rattle.grammar.specs.Stores.{sets-append, sound-sets}
 use Rattle.scanner.specs.Answers.{poolGrown}
 use Rattle.wire.specs.Limits.{maxStore}
-use Rattle.scanner.specs.declared.Pool.{Pool}
+use Rattle.scanner.specs.declared.fields.Pool.{Pool}
 use Rattle.scanner.specs.Keep.{PoolAfter, RefRoom, NameRoom, ValueRoom, RefPlaced, NamePlaced, ValuePlaced, ItemPlaced, Keepable, Writable}
 use Rattle.scanner.specs.Turn.{soundOf, isAttribute}
 use Rattle.grammar.specs.Turn.{rest}

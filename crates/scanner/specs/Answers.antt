@@ -8,22 +8,22 @@ use Rattle.wire.specs.Refusal.{unexpectedEof}
 use Rattle.grammar.specs.Reader.{Read, got, short, refused, next}
 use Rattle.grammar.specs.Binds.{Got}
 use Rattle.grammar.specs.Grammar.{Span, Ref, new, known, Value, Item, most}
-use Rattle.scanner.specs.declared.Number.{Number}
-use Rattle.scanner.specs.declared.Number.the-variants as Number
-use Rattle.scanner.specs.declared.Text.{Text}
-use Rattle.scanner.specs.declared.Text.the-variants as Text
-use Rattle.scanner.specs.declared.Name.{Name}
-use Rattle.scanner.specs.declared.Name.the-variants as Name
-use Rattle.scanner.specs.declared.Value.the-variants as Variant
-use Rattle.scanner.specs.declared.Value as Coded
-use Rattle.scanner.specs.declared.Pool.{Pool}
-use Rattle.scanner.specs.declared.Reference.{Reference}
-use Rattle.scanner.specs.declared.Reference.the-variants as Reference
-use Rattle.scanner.specs.declared.Item as CodedItem
-use Rattle.scanner.specs.declared.ItemRead.{ItemRead}
-use Rattle.scanner.specs.declared.ItemRead.the-variants as ItemRead
-use Rattle.scanner.specs.declared.ValueRead.{ValueRead}
-use Rattle.scanner.specs.declared.ValueRead.the-variants as ValueRead
+use Rattle.scanner.specs.declared.fields.Number.{Number}
+use Rattle.scanner.specs.declared.fields.Number.the-variants as Number
+use Rattle.scanner.specs.declared.fields.Text.{Text}
+use Rattle.scanner.specs.declared.fields.Text.the-variants as Text
+use Rattle.scanner.specs.declared.fields.Name.{Name}
+use Rattle.scanner.specs.declared.fields.Name.the-variants as Name
+use Rattle.scanner.specs.declared.fields.Value.the-variants as Variant
+use Rattle.scanner.specs.declared.fields.Value as Coded
+use Rattle.scanner.specs.declared.fields.Pool.{Pool}
+use Rattle.scanner.specs.declared.items.Reference.{Reference}
+use Rattle.scanner.specs.declared.items.Reference.the-variants as Reference
+use Rattle.scanner.specs.declared.items.Item as CodedItem
+use Rattle.scanner.specs.declared.items.ItemRead.{ItemRead}
+use Rattle.scanner.specs.declared.items.ItemRead.the-variants as ItemRead
+use Rattle.scanner.specs.declared.fields.ValueRead.{ValueRead}
+use Rattle.scanner.specs.declared.fields.ValueRead.the-variants as ValueRead
 
 abbrev pub numberOf : Number → Read ℕ
 numberOf (Number.Read v n) = got v n

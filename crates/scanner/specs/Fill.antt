@@ -9,7 +9,7 @@ use Rattle.grammar.specs.Reader.{Read, got, short, refused}
 use Rattle.grammar.specs.Grammar.{Span, Ref, Value, Item, counted, countedValue, after}
 use Rattle.grammar.specs.Scan.{addsRef, addsValue, addsItem, pairs, refWords, valueWords, itemWords}
 use Rattle.scanner.specs.Keep.{wordsOf}
-use Rattle.scanner.specs.declared.Pool.{Pool}
+use Rattle.scanner.specs.declared.fields.Pool.{Pool}
 use Rattle.scanner.specs.declared.fill.Filled.{Filled}
 use Rattle.scanner.specs.declared.fill.Ahead.{Ahead}
 

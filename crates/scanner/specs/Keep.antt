@@ -7,9 +7,9 @@ use lib.ListN.{length, getD, take, drop}
 use Rattle.grammar.specs.Grammar.{Ref, new, known, Value, Item, Items, item, whole, lacks, stops, most}
 use lib.Seq.{sets}
 use Rattle.grammar.specs.Scan.{adds, lengths, pairs, copiedPairs, joined, count, words}
-use Rattle.scanner.specs.declared.Pool.{Pool}
+use Rattle.scanner.specs.declared.fields.Pool.{Pool}
 use Rattle.wire.specs.Limits.{maxStore}
-use Rattle.scanner.specs.declared.Words.{Words}
+use Rattle.scanner.specs.declared.write.Words.{Words}
 
 -- ---- the pool
 

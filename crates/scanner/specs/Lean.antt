@@ -4,8 +4,8 @@ use Prim.Native.Nat.{ℕ}
 use Rattle.grammar.specs.Reader.{Read, got, short, refused}
 use Rattle.grammar.specs.Grammar.{Span, Ref, new, known, Value, Item}
 use Rattle.scanner.specs.Tally.{Counts}
-use Rattle.scanner.specs.declared.Tally.{Tally}
-use Rattle.scanner.specs.declared.Passed.{Passed}
+use Rattle.scanner.specs.declared.measure.Tally.{Tally}
+use Rattle.scanner.specs.declared.measure.Passed.{Passed}
 use Rattle.scanner.specs.declared.lean.Past.{Past}
 
 abbrev pub unread : Past

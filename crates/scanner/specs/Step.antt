@@ -10,7 +10,7 @@ use Rattle.wire.specs.Refusal.{badSize, badState, rowsFull, poolFull, namesFull
 use Rattle.wire.specs.Limits.{maxStore}
 use Rattle.grammar.specs.Grammar.{Span, Items, event}
 use Rattle.grammar.specs.Scan.{sound, adds, lengths, pairs, copiedPairs, joined, count, words, Outcome, complete, incomplete, bad, outcome}
-use Rattle.scanner.specs.declared.Pool.{Pool}
+use Rattle.scanner.specs.declared.fields.Pool.{Pool}
 use Rattle.quick.specs.declared.Taken.{Taken}
 use Rattle.scanner.specs.declared.Stepped.{Stepped}
 use Rattle.scanner.specs.declared.Stepped.the-variants as Stepped

@@ -7,10 +7,10 @@ use Rattle.wire.specs.Limits.{maxStore}
 use Rattle.grammar.specs.Grammar.{Ref, new, known, Value, Item, after}
 use Rattle.grammar.specs.Scan.{addsItem, lengths, Measure}
 use Rattle.grammar.specs.Scan as Scan
-use Rattle.scanner.specs.declared.Tally.{Tally}
-use Rattle.scanner.specs.declared.Measured.{Measured}
-use Rattle.scanner.specs.declared.Outcome as Coded
-use Rattle.scanner.specs.declared.Outcome.the-variants as Outcome
+use Rattle.scanner.specs.declared.measure.Tally.{Tally}
+use Rattle.scanner.specs.declared.measure.Measured.{Measured}
+use Rattle.scanner.specs.declared.measure.Outcome as Coded
+use Rattle.scanner.specs.declared.measure.Outcome.the-variants as Outcome
 
 -- from a to b so many names of so many bytes joined the pool, which has `names` now
 pub record Joins (added bytes names : ℕ) (a b : Tally) : Type 0 where

@@ -7,7 +7,7 @@ use lib.ListN.{length, getD}
 use Rattle.wire.specs.Token as Token
 use Rattle.grammar.specs.Grammar.{Items, attributesF, event}
 use Rattle.grammar.specs.Scan.{sound}
-use Rattle.scanner.specs.declared.Pool.{Pool}
+use Rattle.scanner.specs.declared.fields.Pool.{Pool}
 
 abbrev pub soundOf : Pool → List ℕ → ℕ → Bool
 soundOf pool table = sound (pool .kept) table (pool .stored)

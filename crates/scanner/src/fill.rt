@@ -1,9 +1,9 @@
 // The second pass over an event whose new names stay where they are: their pairs and the rows, in one walk. What is read was read
 // before, by the first pass.
-use crate::Name;
-use crate::Pool;
-use crate::Text;
-use crate::Words;
+use crate::fields::Name;
+use crate::fields::Pool;
+use crate::fields::Text;
+use crate::write::Words;
 use event::Shape;
 use wire::Command;
 use wire::Type;
@@ -44,18 +44,18 @@ fn name(s: &[u8], at: usize, base: usize, table: &mut [u32], pool: Pool) -> Fill
     ensures { λ r. ⌜ Once (RefFilled base (pool .names) (now (table .entry)) (now (table .exit)) r) (name (sound (pool .kept) (now (table .entry)) (pool .stored)) (pool .names) (now (s .entry)) at) ⌝ }
 {
     let names = pool.names;
-    match crate::name_at(s, at, false, table, pool) {
+    match crate::fields::name_at(s, at, false, table, pool) {
         Name::New { start, len, next } => {
-            crate::keep_new(table, names, base, start, len);
-            let more = crate::grown(pool);
+            crate::write::keep_new(table, names, base, start, len);
+            let more = crate::items::grown(pool);
             Filled {
-                words: crate::span_words(base, start, len),
+                words: crate::write::span_words(base, start, len),
                 next,
                 names: more.names,
             }
         }
         Name::Known { index, next } => Filled {
-            words: crate::pooled_words(0, table, index),
+            words: crate::write::pooled_words(0, table, index),
             next,
             names,
         },
@@ -71,7 +71,7 @@ fn text(t: Text, base: usize, names: usize) -> Filled
 {
     match t {
         Text::Span { start, len, next } => Filled {
-            words: crate::span_words(base, start, len),
+            words: crate::write::span_words(base, start, len),
             next,
             names,
         },
@@ -138,9 +138,9 @@ fn value(s: &[u8], at: usize, base: usize, table: &mut [u32], pool: Pool, type_:
             next: at,
             names,
         },
-        Shape::String => text(crate::string_at(s, at, false), base, names),
+        Shape::String => text(crate::fields::string_at(s, at, false), base, names),
         Shape::Interned => name(s, at, base, table, pool),
-        Shape::Blob => text(crate::blob_at(s, at), base, names),
+        Shape::Blob => text(crate::fields::blob_at(s, at), base, names),
         Shape::Word => word(s, at, names),
         Shape::Pair => pair(s, at, names),
         Shape::Unknown => unfilled(names),
@@ -181,7 +181,7 @@ fn attribute(
     let v = value(s, n.next, base, table, named, t);
     let first = n.words;
     let second = v.words;
-    crate::put_row(
+    crate::write::put_row(
         rows,
         to,
         Command::ATTRIBUTE,
@@ -213,7 +213,7 @@ fn rest(
     let mut at = from;
     let mut names = start.names;
     let mut to = 8;
-    while crate::is_attribute(s, at, tokens) {
+    while crate::items::is_attribute(s, at, tokens) {
         let pool = Pool {
             kept: start.kept,
             stored: start.stored,
@@ -239,10 +239,10 @@ pub(crate) fn fill(
     requires { ⌜ Writable base (now s) (event (sound (pool .kept) (now table) (pool .stored)) (pool .names) (now s)) pool (now table) (now rows) 0 ⌝ }
     ensures { λ _. ⌜ There 0 base (event (sound (pool .kept) (now (table .entry)) (pool .stored)) (pool .names) (now (s .entry))) (pool .names) (now (table .entry)) (now (table .exit)) (now (rows .entry)) (now (rows .exit)) ⌝ }
 {
-    let row = crate::row_of(crate::first_at(s, false, tokens, table, pool));
+    let row = crate::items::row_of(crate::items::first_at(s, false, tokens, table, pool));
     let item = row.item;
-    crate::keep_item(table, pool, base, item);
-    crate::put_item(rows, 0, 0, base, table, item);
+    crate::write::keep_item(table, pool, base, item);
+    crate::write::put_item(rows, 0, 0, base, table, item);
     if item.kind == Command::START_TAG {
         rest(
             s,
@@ -250,7 +250,7 @@ pub(crate) fn fill(
             base,
             tokens,
             table,
-            crate::after_item(pool, item),
+            crate::items::after_item(pool, item),
             rows,
         );
     }

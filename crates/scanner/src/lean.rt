@@ -1,7 +1,7 @@
 // How far fields go: the readers' answers in three words, for a pass that only measures.
-use crate::Name;
-use crate::Pool;
-use crate::Text;
+use crate::fields::Name;
+use crate::fields::Pool;
+use crate::fields::Text;
 use event::Shape;
 ghost use mathlib.Core.Path.{_≡_};
 ghost use Prim.Native.Nat.{_*_, _≤_, _<_};
@@ -126,9 +126,9 @@ pub(crate) fn after_value(s: &[u8], at: usize, table: &[u32], pool: Pool, type_:
             fresh: 0,
             bytes: 0,
         },
-        Shape::String => after_text(crate::string_at(s, at, true)),
-        Shape::Interned => after_name(crate::name_at(s, at, true, table, pool)),
-        Shape::Blob => after_text(crate::blob_at(s, at)),
+        Shape::String => after_text(crate::fields::string_at(s, at, true)),
+        Shape::Interned => after_name(crate::fields::name_at(s, at, true, table, pool)),
+        Shape::Blob => after_text(crate::fields::blob_at(s, at)),
         Shape::Word => after_word(s, at),
         Shape::Pair => after_pair(s, at),
         Shape::Unknown => unread(),

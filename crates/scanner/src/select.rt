@@ -1,7 +1,7 @@
 // One event of a query: it is measured as by a reader, and of its rows only those that the query asks for are written.
-use crate::Item;
-use crate::Outcome;
-use crate::Pool;
+use crate::fields::Pool;
+use crate::items::Item;
+use crate::measure::Outcome;
 use wire::Command;
 use wire::Refusal;
 ghost use mathlib.Core.Bool.{true, false, _||_, cond};
@@ -67,7 +67,7 @@ fn is_named(document: &[u8], base: usize, table: &[u32], item: Item, name: &[u8]
 {
     if event::has_name(item.kind) {
         let reference = item.name;
-        let words = crate::name_words(0, base, table, reference);
+        let words = crate::write::name_words(0, base, table, reference);
         return event::same_bytes(event::text(document, words.source, words.a, words.b), name);
     }
     name.len() == 0
@@ -116,7 +116,7 @@ fn put_taken(write: bool, rows: &mut [u32], to: usize, base: usize, table: &[u32
     ensures { λ _. ⌜ now (rows .exit) ≡ cond write (sets (now (rows .entry)) to (itemWords 0 base (now (table .entry)) (itemOf item))) (now (rows .entry)) ⌝ }
 {
     if write {
-        crate::put_item(rows, to, 0, base, table, item);
+        crate::write::put_item(rows, to, 0, base, table, item);
     }
 }
 
@@ -157,10 +157,17 @@ fn take_rest(
     let mut at = from;
     let mut pool = start;
     let mut count = 0;
-    while crate::is_attribute(s, at, tokens) {
-        let row = crate::row_of(crate::attribute_at(s, at, false, tokens, table, pool));
+    while crate::items::is_attribute(s, at, tokens) {
+        let row = crate::items::row_of(crate::items::attribute_at(
+            s,
+            at,
+            false,
+            tokens,
+            table,
+            pool,
+        ));
         let item = row.item;
-        pool = crate::after_item(pool, item);
+        pool = crate::items::after_item(pool, item);
         at = row.next;
         if is_taken(all, document, base, table, item, name) {
             put_taken(write, rows, to + 8 * count, base, table, item);
@@ -222,7 +229,7 @@ fn take_event(
     ensures rows { λ r. ⌜ Chose write to (chosen query (now (document .entry)) (now (element .entry)) (now (name .entry)) (rowsOf base (now (table .entry)) (event (sound (pool .kept) (now (table .entry)) (pool .stored)) (pool .names) (now (s .entry))))) (now (rows .entry)) (now (rows .exit)) (r .rows) ⌝ }
     ensures kind { λ r. ⌜ r .kind ≡ kindOf (event (sound (pool .kept) (now (table .entry)) (pool .stored)) (pool .names) (now (s .entry))) ⌝ }
 {
-    let row = crate::row_of(crate::first_at(s, false, tokens, table, pool));
+    let row = crate::items::row_of(crate::items::first_at(s, false, tokens, table, pool));
     let item = row.item;
     let kind = item.kind;
     if is_element(document, base, table, item, element) {
@@ -234,7 +241,7 @@ fn take_event(
             base,
             tokens,
             table,
-            crate::after_item(pool, item),
+            crate::items::after_item(pool, item),
             document,
             name,
             all,
@@ -282,8 +289,8 @@ fn count_by(
         stored: document.len(),
         names,
     };
-    crate::put_words(own, table, 2 * names);
-    crate::keep(s, at, tokens, own, pool);
+    crate::write::put_words(own, table, 2 * names);
+    crate::write::keep(s, at, tokens, own, pool);
     let mut none = [0u32; 1];
     let took = take_event(
         query,
@@ -381,7 +388,7 @@ fn keep_added(
     ensures { λ _. ⌜ now (table .exit) ≡ sets (now (table .entry)) (2 * pool .names) (pairs base (adds (pool .names) (event (sound (pool .kept) (now (table .entry)) (pool .stored)) (pool .names) (now (s .entry))))) ⌝ }
 {
     if added != 0 {
-        crate::keep(s, base, tokens, table, pool);
+        crate::write::keep(s, base, tokens, table, pool);
     }
 }
 
@@ -626,7 +633,7 @@ fn see(document: &[u8], at: usize, names: usize, tokens: &[u16; 256], table: &[u
         stored: document.len(),
         names,
     };
-    let m = crate::measure(&document[at..], true, tokens, table, pool);
+    let m = crate::measure::measure(&document[at..], true, tokens, table, pool);
     let outcome = m.outcome;
     match outcome {
         Outcome::Incomplete => Seen::End,

@@ -3,7 +3,7 @@ use native.Mathlib.Omega.{arith}
 use Rattle.grammar.specs.Grammar.{counted}
 use Rattle.grammar.specs.Scan.{addsRef, pairs, spanWords, refWords}
 use Rattle.scanner.specs.Answers.{nameOf, poolGrown}
-use Rattle.scanner.specs.declared.Pool.{Pool}
+use Rattle.scanner.specs.declared.fields.Pool.{Pool}
 use Rattle.scanner.proofs.Filling.{has-got, once-got, once-short, once-refused, new-stored, new-room, known-room}
 use borrow.Author.Needs.{needs}
 use Rattle.scanner.proofs.fill.name.Statement.{statement}

@@ -1,0 +1,52 @@
+use mathlib.Core.Path.{sym, _∙_}
+use Rattle.scanner.proofs.Attributes.{first-asks, first-was}
+use Rattle.scanner.proofs.Walk.{own-within, own-room, own-kept, others-keepable, others-kept}
+use borrow.Author.Needs.{needs}
+use Rattle.scanner.proofs.write.keep.Statement.{statement}
+use Rattle.scanner.proofs.write.keep.Tie as tie
+
+first-at-requires : tie.Need-first-at-requires
+first-at-requires c κs = let p = c .before .before .before .pre in (p .0, first-asks (p .1))
+
+row-of-requires : tie.Need-row-of-requires
+row-of-requires c κs = first-was (c .before .before .before .before .pre .1) _ (c .first-at .ensures)
+
+keep-item-requires : tie.Need-keep-item-requires
+keep-item-requires c κs = own-room (c .before .before .before .before .before .before .before .pre .1) _ _ (sym (c .before .before .before .first-at .ensures) ∙ c .before .before .row-of .ensures)
+
+after-item-requires : tie.Need-after-item-requires
+after-item-requires c κs = search needs
+
+keep-rest-requires : tie.Need-keep-rest-requires
+keep-rest-requires c κs =
+    let p = c .before .before .before .before .before .before .before .before .before .before .before .before .before .before .pre in
+    let e = sym (c .before .before .before .before .before .before .before .before .before .before .first-at .ensures) ∙ c .before .before .before .before .before .before .before .before .before .row-of .ensures in
+    (own-within (p .1) _ _ e, (p .0, others-keepable (p .1) _ _ e _ (c .before .before .before .before .before .before .keep-item .ensures) (c .before .before .if1 .taken) _ (c .after-item .ensures)))
+
+same-length : tie.Need-same-length
+same-length c = search needs
+
+returns : tie.Need-returns
+returns c =
+    let p = c .before .before .before .before .before .before .before .before .before .before .before .before .before .before .before .before .before .pre in
+    others-kept (p .1) _ _ (sym (c .before .before .before .before .before .before .before .before .before .before .before .before .before .first-at .ensures) ∙ c .before .before .before .before .before .before .before .before .before .before .before .before .row-of .ensures) _ (c .before .before .before .before .before .before .before .before .before .keep-item .ensures) (c .before .before .before .before .before .if1 .taken) _ (c .before .before .before .after-item .ensures) _ (c .before .before .keep-rest .ensures)
+
+same-length-2 : tie.Need-same-length-2
+same-length-2 c = search needs
+
+returns-2 : tie.Need-returns-2
+returns-2 c = own-kept (c .before .before .before .before .before .before .before .before .before .before .before .before .pre .1) _ _ (sym (c .before .before .before .before .before .before .before .before .first-at .ensures) ∙ c .before .before .before .before .before .before .before .row-of .ensures) _ (c .before .before .before .before .keep-item .ensures) (c .if1 .left)
+
+pub keep-spec : {M : Type 1} → statement M
+keep-spec =
+    tie.close
+    (tie.spec
+    first-at-requires
+    row-of-requires
+    keep-item-requires
+    after-item-requires
+    keep-rest-requires
+    same-length
+    returns
+    same-length-2
+    returns-2)
