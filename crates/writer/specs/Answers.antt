@@ -4,8 +4,7 @@ use mathlib.Core.Option.{Option, none, some}
 use mathlib.Core.List.{List}
 use Prim.Native.Nat.{ℕ}
 use Rattle.event.specs.Words.{listForms, eventForms}
-use Rattle.writer_spec.specs.Encode.{find}
-use Rattle.writer_spec.specs.Writer.{Lent, Reply, wrote, refused, Left, poolAt, meetsBad}
+use Rattle.writer_spec.specs.Writer.{Lent, Reply, wrote, refused, Left}
 use Rattle.writer_spec.specs.Writer as Spec
 use Rattle.writer.specs.declared.Writer.{Writer}
 use Rattle.writer.specs.declared.Written.{Written}

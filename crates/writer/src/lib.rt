@@ -10,7 +10,7 @@ ghost use mathlib.Core.Bool.{cond, true, false};
 ghost use mathlib.Core.List.{[], _∷_};
 ghost use mathlib.Core.Path.{_≡_};
 ghost use Prim.Native.Nat.{_+_, _*_, _-_, _/_, _%_, _≤_, _<_};
-ghost use lib.ListN.{length, getD, set, take, drop};
+ghost use lib.ListN.{length, getD, set, take};
 ghost use lib.Seq.{sets};
 ghost use Rattle.wire.specs.Header.{be16, be32};
 ghost use Rattle.wire.specs.Limits.{maxStore};

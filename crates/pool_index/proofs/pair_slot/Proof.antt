@@ -1,4 +1,3 @@
-use native.Mathlib.Omega.{arith}
 use native.Mathlib.Nat.{add-sub-cancel-left}
 use borrow.Author.Needs.{needs}
 use Rattle.pool_index.proofs.pair_slot.Statement.{statement}

@@ -5,7 +5,6 @@ use lib.ListN.{length-replicate}
 use Rattle.writer_spec.specs.Writer.{rowsIn}
 use Rattle.writer.specs.Answers.{lentOf, stateOf, formsBy}
 use Rattle.writer.proofs.Calls.{slots-of, fresh, tried-with}
-use borrow.Author.Needs.{needs}
 use Rattle.writer.proofs.write_nearly_all.Statement.{statement}
 use Rattle.writer.proofs.write_nearly_all.Tie as tie
 
