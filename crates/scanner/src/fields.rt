@@ -6,9 +6,9 @@ ghost use mathlib.Core.Path.{_≡_};
 ghost use Prim.Native.Nat.{_*_, _≤_, _<_};
 ghost use lib.ListN.{length};
 ghost use Rattle.grammar.specs.Grammar.{u16, u32, u64, string, blob, name, value};
-ghost use Rattle.grammar.specs.Scan.{sound};
 ghost use Rattle.scanner.specs.Answers.{numberOf, textOf, nameOf, valueReadOf, asText, asInterned, asWord, asPair, Trusted};
 ghost use Rattle.grammar.specs.Names.{newName};
+ghost use Rattle.scanner.specs.Turn.{soundOf};
 
 // ---- fields
 
@@ -136,7 +136,7 @@ pub struct Pool {
 // Whether the span of entry i lies in its store.
 fn is_sound(table: &[u32], pool: Pool, i: usize) -> bool
     requires { ⌜ 2 * pool .kept ≤ length (now table) ⌝ }
-    ensures { λ r. ⌜ r ≡ sound (pool .kept) (now (table .entry)) (pool .stored) i ⌝ }
+    ensures { λ r. ⌜ r ≡ soundOf pool (now (table .entry)) i ⌝ }
 {
     let kept = pool.kept;
     if i < kept {
@@ -151,8 +151,8 @@ fn is_sound(table: &[u32], pool: Pool, i: usize) -> bool
 pub(crate) fn name_at(s: &[u8], at: usize, check: bool, table: &[u32], pool: Pool) -> Name
     requires { ⌜ at ≤ length (now s) ⌝ }
     requires { ⌜ 2 * pool .kept ≤ length (now table) ⌝ }
-    requires { ⌜ Trusted check (name (sound (pool .kept) (now table) (pool .stored)) (pool .names) (now s) at) ⌝ }
-    ensures { λ r. ⌜ nameOf r ≡ name (sound (pool .kept) (now (table .entry)) (pool .stored)) (pool .names) (now (s .entry)) at ⌝ }
+    requires { ⌜ Trusted check (name (soundOf pool (now table)) (pool .names) (now s) at) ⌝ }
+    ensures { λ r. ⌜ nameOf r ≡ name (soundOf pool (now (table .entry))) (pool .names) (now (s .entry)) at ⌝ }
 {
     match u16_at(s, at) {
         Number::Short => Name::Short(Refusal::UNEXPECTED_EOF),
@@ -276,8 +276,8 @@ pub(crate) fn value_at(
     requires { ⌜ at ≤ length (now s) ⌝ }
     requires { ⌜ 2 * pool .kept ≤ length (now table) ⌝ }
     requires { ⌜ «type_» < 256 ⌝ }
-    requires { ⌜ Trusted check (value (sound (pool .kept) (now table) (pool .stored)) (pool .names) «type_» (now s) at) ⌝ }
-    ensures { λ r. ⌜ valueReadOf r ≡ value (sound (pool .kept) (now (table .entry)) (pool .stored)) (pool .names) «type_» (now (s .entry)) at ⌝ }
+    requires { ⌜ Trusted check (value (soundOf pool (now table)) (pool .names) «type_» (now s) at) ⌝ }
+    ensures { λ r. ⌜ valueReadOf r ≡ value (soundOf pool (now (table .entry))) (pool .names) «type_» (now (s .entry)) at ⌝ }
 {
     match event::shape_of(type_) {
         Shape::Nothing => ValueRead::Got {

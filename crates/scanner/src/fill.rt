@@ -11,11 +11,11 @@ ghost use mathlib.Core.Path.{_≡_};
 ghost use Prim.Native.Nat.{_+_, _*_, _≤_, _<_};
 ghost use lib.ListN.{length};
 ghost use Rattle.wire.specs.Token.{builtIn};
-ghost use Rattle.grammar.specs.Grammar.{u32, u64, name, value, attribute, counted, countedValue, after, attributesF, event};
-ghost use Rattle.grammar.specs.Scan.{sound};
+ghost use Rattle.grammar.specs.Grammar.{u32, u64, name, value, attribute, counted, countedValue, after};
 ghost use Rattle.scanner.specs.Answers.{textOf};
 ghost use Rattle.scanner.specs.Keep.{Writable, There};
 ghost use Rattle.scanner.specs.Fill.{Has, Once, Fillable, Stored, SpanPlain, WordPlain, PairPlain, RefFilled, ValueFilled, RowFilled};
+ghost use Rattle.scanner.specs.Turn.{soundOf, attributesOf, eventOf};
 
 // Three words of a row, the place after what they were read from, and how many names the pool has then.
 pub struct Filled {
@@ -40,8 +40,8 @@ fn unfilled(names: usize) -> Filled {
 // A name, or an interned string. A new one goes to the table, while there is room.
 fn name(s: &[u8], at: usize, base: usize, table: &mut [u32], pool: Pool) -> Filled
     requires { ⌜ Fillable (now s) at base pool (now table) ⌝ }
-    requires { ⌜ Has (λ r. 2 * counted (pool .names) r ≤ length (now table)) (name (sound (pool .kept) (now table) (pool .stored)) (pool .names) (now s) at) ⌝ }
-    ensures { λ r. ⌜ Once (RefFilled base (pool .names) (now (table .entry)) (now (table .exit)) r) (name (sound (pool .kept) (now (table .entry)) (pool .stored)) (pool .names) (now (s .entry)) at) ⌝ }
+    requires { ⌜ Has (λ r. 2 * counted (pool .names) r ≤ length (now table)) (name (soundOf pool (now table)) (pool .names) (now s) at) ⌝ }
+    ensures { λ r. ⌜ Once (RefFilled base (pool .names) (now (table .entry)) (now (table .exit)) r) (name (soundOf pool (now (table .entry))) (pool .names) (now (s .entry)) at) ⌝ }
 {
     let names = pool.names;
     match crate::fields::name_at(s, at, false, table, pool) {
@@ -124,8 +124,8 @@ fn pair(s: &[u8], at: usize, names: usize) -> Filled
 fn value(s: &[u8], at: usize, base: usize, table: &mut [u32], pool: Pool, type_: u32) -> Filled
     requires { ⌜ Fillable (now s) at base pool (now table) ⌝ }
     requires { ⌜ «type_» < 256 ⌝ }
-    requires { ⌜ Has (λ v. 2 * countedValue (pool .names) v ≤ length (now table)) (value (sound (pool .kept) (now table) (pool .stored)) (pool .names) «type_» (now s) at) ⌝ }
-    ensures { λ r. ⌜ Once (ValueFilled base (pool .names) (now (table .entry)) (now (table .exit)) r) (value (sound (pool .kept) (now (table .entry)) (pool .stored)) (pool .names) «type_» (now (s .entry)) at) ⌝ }
+    requires { ⌜ Has (λ v. 2 * countedValue (pool .names) v ≤ length (now table)) (value (soundOf pool (now table)) (pool .names) «type_» (now s) at) ⌝ }
+    ensures { λ r. ⌜ Once (ValueFilled base (pool .names) (now (table .entry)) (now (table .exit)) r) (value (soundOf pool (now (table .entry))) (pool .names) «type_» (now (s .entry)) at) ⌝ }
 {
     let names = pool.names;
     match event::shape_of(type_) {
@@ -166,9 +166,9 @@ fn attribute(
 ) -> Ahead
     requires { ⌜ Fillable (now s) (at + 1) base pool (now table) ⌝ }
     requires { ⌜ now tokens ≡ builtIn ⌝ }
-    requires { ⌜ Has (λ i. 2 * after (pool .names) i ≤ length (now table)) (attribute (sound (pool .kept) (now table) (pool .stored)) (pool .names) (now s) at) ⌝ }
+    requires { ⌜ Has (λ i. 2 * after (pool .names) i ≤ length (now table)) (attribute (soundOf pool (now table)) (pool .names) (now s) at) ⌝ }
     requires { ⌜ to + 8 ≤ length (now rows) ⌝ }
-    ensures { λ r. ⌜ Once (RowFilled base (pool .names) (now (table .entry)) (now (table .exit)) (now (rows .entry)) (now (rows .exit)) to r) (attribute (sound (pool .kept) (now (table .entry)) (pool .stored)) (pool .names) (now (s .entry)) at) ⌝ }
+    ensures { λ r. ⌜ Once (RowFilled base (pool .names) (now (table .entry)) (now (table .exit)) (now (rows .entry)) (now (rows .exit)) to r) (attribute (soundOf pool (now (table .entry))) (pool .names) (now (s .entry)) at) ⌝ }
 {
     let type_ = Type::new(tokens, s[at]);
     let t = type_.0;
@@ -207,8 +207,8 @@ fn rest(
 )
     requires { ⌜ from ≤ length (now s) ⌝ }
     requires { ⌜ now tokens ≡ builtIn ⌝ }
-    requires { ⌜ Writable base (now s) (attributesF (sound (start .kept) (now table) (start .stored)) (length (now s)) (start .names) (now s) from) start (now table) (now rows) 8 ⌝ }
-    ensures { λ _. ⌜ There 8 base (attributesF (sound (start .kept) (now (table .entry)) (start .stored)) (length (now (s .entry))) (start .names) (now (s .entry)) from) (start .names) (now (table .entry)) (now (table .exit)) (now (rows .entry)) (now (rows .exit)) ⌝ }
+    requires { ⌜ Writable base (now s) (attributesOf start (now table) (now s) from) start (now table) (now rows) 8 ⌝ }
+    ensures { λ _. ⌜ There 8 base (attributesOf start (now (table .entry)) (now (s .entry)) from) (start .names) (now (table .entry)) (now (table .exit)) (now (rows .entry)) (now (rows .exit)) ⌝ }
 {
     let mut at = from;
     let mut names = start.names;
@@ -236,8 +236,8 @@ pub(crate) fn fill(
     rows: &mut [u32],
 )
     requires { ⌜ now tokens ≡ builtIn ⌝ }
-    requires { ⌜ Writable base (now s) (event (sound (pool .kept) (now table) (pool .stored)) (pool .names) (now s)) pool (now table) (now rows) 0 ⌝ }
-    ensures { λ _. ⌜ There 0 base (event (sound (pool .kept) (now (table .entry)) (pool .stored)) (pool .names) (now (s .entry))) (pool .names) (now (table .entry)) (now (table .exit)) (now (rows .entry)) (now (rows .exit)) ⌝ }
+    requires { ⌜ Writable base (now s) (eventOf pool (now table) (now s)) pool (now table) (now rows) 0 ⌝ }
+    ensures { λ _. ⌜ There 0 base (eventOf pool (now (table .entry)) (now (s .entry))) (pool .names) (now (table .entry)) (now (table .exit)) (now (rows .entry)) (now (rows .exit)) ⌝ }
 {
     let row = crate::items::row_of(crate::items::first_at(s, false, tokens, table, pool));
     let item = row.item;

@@ -14,9 +14,8 @@ ghost use lib.ListN.{length};
 ghost use Rattle.wire.specs.Token.{builtIn};
 ghost use Rattle.grammar.specs.Reader.{got};
 ghost use Rattle.grammar.specs.Grammar.{name, attribute, first, countedName, after};
-ghost use Rattle.grammar.specs.Scan.{sound};
 ghost use Rattle.scanner.specs.Keep.{PoolAfter};
-ghost use Rattle.scanner.specs.Turn.{isAttribute};
+ghost use Rattle.scanner.specs.Turn.{soundOf, isAttribute};
 ghost use Rattle.scanner.specs.Answers.{textOf, nameOf, valueReadOf, itemOf, poolGrown, referenceOf, itemReadOf, Trusted};
 ghost use Rattle.grammar.specs.Binds.{Got};
 ghost use Rattle.grammar.specs.Rows.{asAttribute, asTag, asTextRow};
@@ -88,8 +87,8 @@ pub(crate) fn attribute_at(
     requires { ⌜ at < length (now s) ⌝ }
     requires { ⌜ now tokens ≡ builtIn ⌝ }
     requires { ⌜ 2 * pool .kept ≤ length (now table) ⌝ }
-    requires { ⌜ Trusted check (attribute (sound (pool .kept) (now table) (pool .stored)) (pool .names) (now s) at) ⌝ }
-    ensures { λ r. ⌜ itemReadOf r ≡ attribute (sound (pool .kept) (now (table .entry)) (pool .stored)) (pool .names) (now (s .entry)) at ⌝ }
+    requires { ⌜ Trusted check (attribute (soundOf pool (now table)) (pool .names) (now s) at) ⌝ }
+    ensures { λ r. ⌜ itemReadOf r ≡ attribute (soundOf pool (now (table .entry))) (pool .names) (now (s .entry)) at ⌝ }
 {
     let type_ = Type::new(tokens, s[at]);
     let t = type_.0;
@@ -207,8 +206,8 @@ pub(crate) fn first_at(
 ) -> ItemRead
     requires { ⌜ now tokens ≡ builtIn ⌝ }
     requires { ⌜ 2 * pool .kept ≤ length (now table) ⌝ }
-    requires { ⌜ Trusted check (first (sound (pool .kept) (now table) (pool .stored)) (pool .names) (now s) 0) ⌝ }
-    ensures { λ r. ⌜ itemReadOf r ≡ first (sound (pool .kept) (now (table .entry)) (pool .stored)) (pool .names) (now (s .entry)) 0 ⌝ }
+    requires { ⌜ Trusted check (first (soundOf pool (now table)) (pool .names) (now s) 0) ⌝ }
+    ensures { λ r. ⌜ itemReadOf r ≡ first (soundOf pool (now (table .entry))) (pool .names) (now (s .entry)) 0 ⌝ }
 {
     if s.len() == 0 {
         return ItemRead::Short(Refusal::UNEXPECTED_EOF);

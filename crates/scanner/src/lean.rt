@@ -7,9 +7,9 @@ ghost use mathlib.Core.Path.{_≡_};
 ghost use Prim.Native.Nat.{_*_, _≤_, _<_};
 ghost use lib.ListN.{length};
 ghost use Rattle.grammar.specs.Grammar.{u32, u64, value};
-ghost use Rattle.grammar.specs.Scan.{sound};
 ghost use Rattle.scanner.specs.Answers.{nameOf, textOf, asWord, asPair};
 ghost use Rattle.scanner.specs.Lean.{unread, pastName, pastSpan, pastValue};
+ghost use Rattle.scanner.specs.Turn.{soundOf};
 
 // The place after a field, and 1 and the bytes of its name where that is new. A place of 0: it was not read.
 pub struct Past {
@@ -118,7 +118,7 @@ pub(crate) fn after_value(s: &[u8], at: usize, table: &[u32], pool: Pool, type_:
     requires { ⌜ at ≤ length (now s) ⌝ }
     requires { ⌜ 2 * pool .kept ≤ length (now table) ⌝ }
     requires { ⌜ «type_» < 256 ⌝ }
-    ensures { λ r. ⌜ r ≡ pastValue (value (sound (pool .kept) (now (table .entry)) (pool .stored)) (pool .names) «type_» (now (s .entry)) at) ⌝ }
+    ensures { λ r. ⌜ r ≡ pastValue (value (soundOf pool (now (table .entry))) (pool .names) «type_» (now (s .entry)) at) ⌝ }
 {
     match event::shape_of(type_) {
         Shape::Nothing => Past {

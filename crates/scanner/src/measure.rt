@@ -18,11 +18,12 @@ ghost use Prim.Native.Nat.{_+_, _*_, _≤_, _<_};
 ghost use lib.ListN.{length};
 ghost use Rattle.wire.specs.Limits.{maxStore};
 ghost use Rattle.wire.specs.Token.{builtIn};
-ghost use Rattle.grammar.specs.Grammar.{name, value, attribute, most, countedName, countedValue, lacks, whole, attributesF, event};
-ghost use Rattle.grammar.specs.Scan.{sound, outcome, measure, addsName, addsValue, lengths};
+ghost use Rattle.grammar.specs.Grammar.{name, value, attribute, most, countedName, countedValue, lacks, whole};
+ghost use Rattle.grammar.specs.Scan.{outcome, measure, addsName, addsValue, lengths};
 ghost use Rattle.scanner.specs.Tally.{Small, NameSmall, ValueSmall, ItemSmall, Bounded, Joins, Counts, plus, outcomeOf, measuredOf};
 ghost use Rattle.scanner.specs.Lean.{PassedItem};
 ghost use Rattle.scanner.specs.Answers.{valueOf, itemOf, referenceOf};
+ghost use Rattle.scanner.specs.Turn.{soundOf, attributesOf, eventOf};
 
 // What has been read of an event: the pool with the names so far, the rows, the names that join the pool, and their bytes.
 pub struct Tally {
@@ -158,7 +159,7 @@ fn measure_slowly(
     requires { ⌜ now tokens ≡ builtIn ⌝ }
     requires { ⌜ 2 * start .pool .kept ≤ length (now table) ⌝ }
     requires { ⌜ Bounded from start ⌝ }
-    ensures { λ r. ⌜ measuredOf r ≡ plus start (measure finished (start .pool .names) (attributesF (sound (start .pool .kept) (now (table .entry)) (start .pool .stored)) (length (now (s .entry))) (start .pool .names) (now (s .entry)) from)) ⌝ }
+    ensures { λ r. ⌜ measuredOf r ≡ plus start (measure finished (start .pool .names) (attributesOf (start .pool) (now (table .entry)) (now (s .entry)) from)) ⌝ }
 {
     let mut at = from;
     let mut tally = start;
@@ -209,7 +210,7 @@ fn pass_attribute(s: &[u8], at: usize, tokens: &[u16; 256], table: &[u32], tally
     requires { ⌜ now tokens ≡ builtIn ⌝ }
     requires { ⌜ 2 * tally .pool .kept ≤ length (now table) ⌝ }
     requires { ⌜ Bounded at tally ⌝ }
-    ensures { λ r. ⌜ (0 < r .next → PassedItem (attribute (sound (tally .pool .kept) (now (table .entry)) (tally .pool .stored)) (tally .pool .names) (now (s .entry)) at) tally r) ⌝ }
+    ensures { λ r. ⌜ (0 < r .next → PassedItem (attribute (soundOf (tally .pool) (now (table .entry))) (tally .pool .names) (now (s .entry)) at) tally r) ⌝ }
 {
     let no = Passed { next: 0, tally };
     let name = lean::after_name(fields::name_at(s, at + 1, true, table, tally.pool));
@@ -248,7 +249,7 @@ fn measure_rest(
     requires { ⌜ now tokens ≡ builtIn ⌝ }
     requires { ⌜ 2 * start .pool .kept ≤ length (now table) ⌝ }
     requires { ⌜ Bounded from start ⌝ }
-    ensures { λ r. ⌜ measuredOf r ≡ plus start (measure finished (start .pool .names) (attributesF (sound (start .pool .kept) (now (table .entry)) (start .pool .stored)) (length (now (s .entry))) (start .pool .names) (now (s .entry)) from)) ⌝ }
+    ensures { λ r. ⌜ measuredOf r ≡ plus start (measure finished (start .pool .names) (attributesOf (start .pool) (now (table .entry)) (now (s .entry)) from)) ⌝ }
 {
     let mut at = from;
     let mut tally = start;
@@ -280,7 +281,7 @@ pub(crate) fn measure(
     requires { ⌜ length (now s) ≤ maxStore ⌝ }
     requires { ⌜ now tokens ≡ builtIn ⌝ }
     requires { ⌜ 2 * pool .kept ≤ length (now table) ⌝ }
-    ensures { λ r. ⌜ measuredOf r ≡ measure finished (pool .names) (event (sound (pool .kept) (now (table .entry)) (pool .stored)) (pool .names) (now (s .entry))) ⌝ }
+    ensures { λ r. ⌜ measuredOf r ≡ measure finished (pool .names) (eventOf pool (now (table .entry)) (now (s .entry))) ⌝ }
 {
     let empty = Tally {
         pool,

@@ -12,14 +12,14 @@ ghost use lib.ListN.{length};
 ghost use lib.Dec.{ltb};
 ghost use lib.Seq.{sets};
 ghost use Rattle.wire.specs.Token.{builtIn};
-ghost use Rattle.grammar.specs.Grammar.{attributesF, event};
-ghost use Rattle.grammar.specs.Scan.{sound, itemWords, adds, pairs};
+ghost use Rattle.grammar.specs.Scan.{itemWords, adds, pairs};
 ghost use Rattle.slice_spec.specs.Queries.{named, isElement, kindOf};
 ghost use Rattle.scanner.specs.Answers.{itemOf};
 ghost use Rattle.scanner.specs.Keep.{ItemPlaced, Keepable};
 ghost use Rattle.slice_spec.specs.Slice.{itemsAt};
 ghost use Rattle.slice_spec.specs.Turns.{passing, turnOrRefuse};
 ghost use Rattle.scanner.specs.Select.{queryOf, asked, mostOf, Whole, Handed, progress, turnOf, turned, unsure, uncountedOf, inDoubt, uncounted, Sees, takesAll, takesOne, taken, chosen, rowsOf, Room, Chose};
+ghost use Rattle.scanner.specs.Turn.{attributesOf, eventOf};
 
 // What is asked for: attributes of a name, of elements of a name; or such elements with all their attributes.
 pub enum Query {
@@ -149,10 +149,10 @@ fn take_rest(
 ) -> usize
     requires { ⌜ from ≤ length (now s) ⌝ }
     requires { ⌜ now tokens ≡ builtIn ⌝ }
-    requires { ⌜ Keepable base (now s) (attributesF (sound (start .kept) (now table) (start .stored)) (length (now s)) (start .names) (now s) from) start (now table) ⌝ }
-    requires { ⌜ Room write to (length (taken all one (now document) (now name) (rowsOf base (now table) (attributesF (sound (start .kept) (now table) (start .stored)) (length (now s)) (start .names) (now s) from)))) (now rows) ⌝ }
+    requires { ⌜ Keepable base (now s) (attributesOf start (now table) (now s) from) start (now table) ⌝ }
+    requires { ⌜ Room write to (length (taken all one (now document) (now name) (rowsOf base (now table) (attributesOf start (now table) (now s) from)))) (now rows) ⌝ }
     ensures few { λ r. ⌜ r ≤ length (now (s .entry)) ⌝ }
-    ensures rows { λ r. ⌜ Chose write to (taken all one (now (document .entry)) (now (name .entry)) (rowsOf base (now (table .entry)) (attributesF (sound (start .kept) (now (table .entry)) (start .stored)) (length (now (s .entry))) (start .names) (now (s .entry)) from))) (now (rows .entry)) (now (rows .exit)) r ⌝ }
+    ensures rows { λ r. ⌜ Chose write to (taken all one (now (document .entry)) (now (name .entry)) (rowsOf base (now (table .entry)) (attributesOf start (now (table .entry)) (now (s .entry)) from))) (now (rows .entry)) (now (rows .exit)) r ⌝ }
 {
     let mut at = from;
     let mut pool = start;
@@ -223,11 +223,11 @@ fn take_event(
     to: usize,
 ) -> Took
     requires { ⌜ now tokens ≡ builtIn ⌝ }
-    requires { ⌜ Keepable base (now s) (event (sound (pool .kept) (now table) (pool .stored)) (pool .names) (now s)) pool (now table) ⌝ }
-    requires { ⌜ Room write to (length (chosen query (now document) (now element) (now name) (rowsOf base (now table) (event (sound (pool .kept) (now table) (pool .stored)) (pool .names) (now s))))) (now rows) ⌝ }
+    requires { ⌜ Keepable base (now s) (eventOf pool (now table) (now s)) pool (now table) ⌝ }
+    requires { ⌜ Room write to (length (chosen query (now document) (now element) (now name) (rowsOf base (now table) (eventOf pool (now table) (now s))))) (now rows) ⌝ }
     requires { ⌜ (write ≡ false → to ≡ 0) ⌝ }
-    ensures rows { λ r. ⌜ Chose write to (chosen query (now (document .entry)) (now (element .entry)) (now (name .entry)) (rowsOf base (now (table .entry)) (event (sound (pool .kept) (now (table .entry)) (pool .stored)) (pool .names) (now (s .entry))))) (now (rows .entry)) (now (rows .exit)) (r .rows) ⌝ }
-    ensures kind { λ r. ⌜ r .kind ≡ kindOf (event (sound (pool .kept) (now (table .entry)) (pool .stored)) (pool .names) (now (s .entry))) ⌝ }
+    ensures rows { λ r. ⌜ Chose write to (chosen query (now (document .entry)) (now (element .entry)) (now (name .entry)) (rowsOf base (now (table .entry)) (eventOf pool (now (table .entry)) (now (s .entry))))) (now (rows .entry)) (now (rows .exit)) (r .rows) ⌝ }
+    ensures kind { λ r. ⌜ r .kind ≡ kindOf (eventOf pool (now (table .entry)) (now (s .entry))) ⌝ }
 {
     let row = crate::items::row_of(crate::items::first_at(s, false, tokens, table, pool));
     let item = row.item;
@@ -383,9 +383,9 @@ fn keep_added(
     added: usize,
 )
     requires { ⌜ now tokens ≡ builtIn ⌝ }
-    requires { ⌜ Keepable base (now s) (event (sound (pool .kept) (now table) (pool .stored)) (pool .names) (now s)) pool (now table) ⌝ }
-    requires { ⌜ added ≡ length (adds (pool .names) (event (sound (pool .kept) (now table) (pool .stored)) (pool .names) (now s))) ⌝ }
-    ensures { λ _. ⌜ now (table .exit) ≡ sets (now (table .entry)) (2 * pool .names) (pairs base (adds (pool .names) (event (sound (pool .kept) (now (table .entry)) (pool .stored)) (pool .names) (now (s .entry))))) ⌝ }
+    requires { ⌜ Keepable base (now s) (eventOf pool (now table) (now s)) pool (now table) ⌝ }
+    requires { ⌜ added ≡ length (adds (pool .names) (eventOf pool (now table) (now s))) ⌝ }
+    ensures { λ _. ⌜ now (table .exit) ≡ sets (now (table .entry)) (2 * pool .names) (pairs base (adds (pool .names) (eventOf pool (now (table .entry)) (now (s .entry))))) ⌝ }
 {
     if added != 0 {
         crate::write::keep(s, base, tokens, table, pool);

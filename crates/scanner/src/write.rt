@@ -13,10 +13,11 @@ ghost use lib.ListN.{length, getD, take, drop};
 ghost use lib.Seq.{sets};
 ghost use Rattle.wire.specs.Limits.{maxStore};
 ghost use Rattle.wire.specs.Token.{builtIn};
-ghost use Rattle.grammar.specs.Grammar.{name, value, first, most, countedName, new, attributesF, event};
-ghost use Rattle.grammar.specs.Scan.{sound, addsRef, addsName, addsValue, addsItem, adds, pairs, nameWords, valueWords, itemWords, words};
+ghost use Rattle.grammar.specs.Grammar.{name, value, first, most, countedName, new};
+ghost use Rattle.grammar.specs.Scan.{addsRef, addsName, addsValue, addsItem, adds, pairs, nameWords, valueWords, itemWords, words};
 ghost use Rattle.scanner.specs.Keep.{Copyable, Copied, NamePlaced, ValuePlaced, ItemPlaced, NameRoom, ValueRoom, Keepable, Writable, wordsOf, moved, carried, Movable};
 ghost use Rattle.scanner.specs.Answers.{valueOf, itemOf, referenceOf};
+ghost use Rattle.scanner.specs.Turn.{attributesOf, eventOf};
 
 // ---- new names
 
@@ -84,8 +85,8 @@ fn keep_rest(
 )
     requires { ⌜ from ≤ length (now s) ⌝ }
     requires { ⌜ now tokens ≡ builtIn ⌝ }
-    requires { ⌜ Keepable base (now s) (attributesF (sound (start .kept) (now table) (start .stored)) (length (now s)) (start .names) (now s) from) start (now table) ⌝ }
-    ensures { λ _. ⌜ now (table .exit) ≡ sets (now (table .entry)) (2 * start .names) (pairs base (adds (start .names) (attributesF (sound (start .kept) (now (table .entry)) (start .stored)) (length (now (s .entry))) (start .names) (now (s .entry)) from))) ⌝ }
+    requires { ⌜ Keepable base (now s) (attributesOf start (now table) (now s) from) start (now table) ⌝ }
+    ensures { λ _. ⌜ now (table .exit) ≡ sets (now (table .entry)) (2 * start .names) (pairs base (adds (start .names) (attributesOf start (now (table .entry)) (now (s .entry)) from))) ⌝ }
 {
     let mut at = from;
     let mut pool = start;
@@ -101,8 +102,8 @@ fn keep_rest(
 // The new names of the event.
 pub(crate) fn keep(s: &[u8], base: usize, tokens: &[u16; 256], table: &mut [u32], pool: Pool)
     requires { ⌜ now tokens ≡ builtIn ⌝ }
-    requires { ⌜ Keepable base (now s) (event (sound (pool .kept) (now table) (pool .stored)) (pool .names) (now s)) pool (now table) ⌝ }
-    ensures { λ _. ⌜ now (table .exit) ≡ sets (now (table .entry)) (2 * pool .names) (pairs base (adds (pool .names) (event (sound (pool .kept) (now (table .entry)) (pool .stored)) (pool .names) (now (s .entry))))) ⌝ }
+    requires { ⌜ Keepable base (now s) (eventOf pool (now table) (now s)) pool (now table) ⌝ }
+    ensures { λ _. ⌜ now (table .exit) ≡ sets (now (table .entry)) (2 * pool .names) (pairs base (adds (pool .names) (eventOf pool (now (table .entry)) (now (s .entry))))) ⌝ }
 {
     let row = items::row_of(items::first_at(s, false, tokens, table, pool));
     let item = row.item;
@@ -278,8 +279,8 @@ fn write_rest(
 )
     requires { ⌜ from ≤ length (now s) ⌝ }
     requires { ⌜ now tokens ≡ builtIn ⌝ }
-    requires { ⌜ Writable base (now s) (attributesF (sound (start .kept) (now table) (start .stored)) (length (now s)) (start .names) (now s) from) start (now table) (now rows) 8 ⌝ }
-    ensures { λ _. ⌜ now (rows .exit) ≡ sets (now (rows .entry)) 8 (words pooled base (now (table .entry)) (attributesF (sound (start .kept) (now (table .entry)) (start .stored)) (length (now (s .entry))) (start .names) (now (s .entry)) from)) ⌝ }
+    requires { ⌜ Writable base (now s) (attributesOf start (now table) (now s) from) start (now table) (now rows) 8 ⌝ }
+    ensures { λ _. ⌜ now (rows .exit) ≡ sets (now (rows .entry)) 8 (words pooled base (now (table .entry)) (attributesOf start (now (table .entry)) (now (s .entry)) from)) ⌝ }
 {
     let mut at = from;
     let mut pool = start;
@@ -305,8 +306,8 @@ fn write(
     rows: &mut [u32],
 )
     requires { ⌜ now tokens ≡ builtIn ⌝ }
-    requires { ⌜ Writable base (now s) (event (sound (pool .kept) (now table) (pool .stored)) (pool .names) (now s)) pool (now table) (now rows) 0 ⌝ }
-    ensures { λ _. ⌜ now (rows .exit) ≡ sets (now (rows .entry)) 0 (words pooled base (now (table .entry)) (event (sound (pool .kept) (now (table .entry)) (pool .stored)) (pool .names) (now (s .entry)))) ⌝ }
+    requires { ⌜ Writable base (now s) (eventOf pool (now table) (now s)) pool (now table) (now rows) 0 ⌝ }
+    ensures { λ _. ⌜ now (rows .exit) ≡ sets (now (rows .entry)) 0 (words pooled base (now (table .entry)) (eventOf pool (now (table .entry)) (now (s .entry)))) ⌝ }
 {
     let row = items::row_of(items::first_at(s, false, tokens, table, pool));
     let item = row.item;
@@ -340,9 +341,9 @@ pub(crate) fn write_copied(
     rows: &mut [u32],
 )
     requires { ⌜ now tokens ≡ builtIn ⌝ }
-    requires { ⌜ Writable base (now s) (event (sound (pool .kept) (now table) (pool .stored)) (pool .names) (now s)) pool (now table) (now rows) 0 ⌝ }
-    requires { ⌜ Copyable (event (sound (pool .kept) (now table) (pool .stored)) (pool .names) (now s)) (pool .names) added (now store) used ⌝ }
-    ensures { λ _. ⌜ Copied base (now (s .entry)) (event (sound (pool .kept) (now (table .entry)) (pool .stored)) (pool .names) (now (s .entry))) (pool .names) used (now (table .entry)) (now (table .exit)) (now (store .entry)) (now (store .exit)) (now (rows .entry)) (now (rows .exit)) ⌝ }
+    requires { ⌜ Writable base (now s) (eventOf pool (now table) (now s)) pool (now table) (now rows) 0 ⌝ }
+    requires { ⌜ Copyable (eventOf pool (now table) (now s)) (pool .names) added (now store) used ⌝ }
+    ensures { λ _. ⌜ Copied base (now (s .entry)) (eventOf pool (now (table .entry)) (now (s .entry))) (pool .names) used (now (table .entry)) (now (table .exit)) (now (store .entry)) (now (store .exit)) (now (rows .entry)) (now (rows .exit)) ⌝ }
 {
     keep(s, 0, tokens, table, pool);
     let names = pool.names;

@@ -19,9 +19,9 @@ use Rattle.writer_spec.specs.Unrefused.{fits}
 use Rattle.writer.specs.Answers.{lentOf, formsBy}
 use Rattle.pool_index.specs.Slots.{Fresh}
 use Rattle.writer.specs.Passes.{most-notes, callFault, Slots, MeasureSays, Tried, Ready}
-use Rattle.writer.specs.declared.Measured.the-variants as Measured
-use Rattle.writer.specs.declared.Outcome.{Outcome}
-use Rattle.writer.specs.declared.Outcome.the-variants as Outcome
+use Rattle.writer.specs.declared.measure.Measured.the-variants as Measured
+use Rattle.writer.specs.declared.tries.Outcome.{Outcome}
+use Rattle.writer.specs.declared.tries.Outcome.the-variants as Outcome
 
 -- ---- what passed checks say
 

@@ -14,7 +14,7 @@ use Rattle.event.specs.Laws.{same-refl}
 use Rattle.grammar.specs.Choice.{byTest}
 use Rattle.pool_index.specs.Slots.{slotOf}
 use Rattle.writer.specs.Notes.{noteName, noteLink, count, Chain, Linked, LookSays, Recalled}
-use Rattle.writer.specs.declared.Look.the-variants as Look
+use Rattle.writer.specs.declared.notes.Look.the-variants as Look
 
 -- ---- a look
 

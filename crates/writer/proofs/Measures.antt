@@ -23,9 +23,9 @@ use Rattle.byte_copy.specs.Sets.{take-sets}
 use Rattle.writer.specs.Answers.{takes, stops, measured, placed, barred, placedBy}
 use Rattle.pool_index.specs.Slots.{slotOf}
 use Rattle.writer.specs.Notes.{noteName, noteIndex, count, Unnoted, LookSays}
-use Rattle.writer.specs.declared.Look.the-variants as Look
-use Rattle.writer.specs.declared.NameSize.{NameSize}
-use Rattle.writer.specs.declared.NameSize.the-variants as NameSize
+use Rattle.writer.specs.declared.notes.Look.the-variants as Look
+use Rattle.writer.specs.declared.measure.NameSize.{NameSize}
+use Rattle.writer.specs.declared.measure.NameSize.the-variants as NameSize
 use Rattle.writer.specs.Passes.{nameRefusal, capped, most-notes, bad, found, Known, NameTakes, NameSays, RowNamed, RowNameSays, RowTakes}
 use Rattle.writer.proofs.Pools.{keep-there, keep-new, keep-full, find-below}
 use Rattle.writer.proofs.Links.{count-more, name-new}

@@ -21,8 +21,8 @@ use Rattle.writer.specs.Answers.{lentOf}
 use Rattle.pool_index.specs.Slots.{Fresh}
 use Rattle.writer.specs.Notes.{Unnoted}
 use Rattle.writer.specs.Passes.{roomOf, endsAt, Settled, AllSettled, bad, found, Known, Kept, RowTakes, MeasureSays}
-use Rattle.writer.specs.declared.Measured.the-variants as Measured
-use Rattle.writer.specs.declared.Tally.{Tally}
+use Rattle.writer.specs.declared.measure.Measured.the-variants as Measured
+use Rattle.writer.specs.declared.measure.Tally.{Tally}
 use Rattle.writer.proofs.Pools.{row-full}
 use Rattle.writer.proofs.Noting.{noted-none}
 use Rattle.writer.proofs.Turns.{rest, rest-more, rest-ends, rest-end, capped-small, refusal-capped, room-is, stops-row, stops-room, goes-in, goes-past}

@@ -17,7 +17,7 @@ use Rattle.writer_spec.specs.Faults.{stringFault}
 use Rattle.pool_index.specs.Slots.{slotOf, Fresh}
 use Rattle.writer.specs.Notes.{noteName, noteIndex, count, Unnoted, LookSays, Noted}
 use Rattle.writer.specs.Passes.{Settled}
-use Rattle.writer.specs.declared.Look.the-variants as Look
+use Rattle.writer.specs.declared.notes.Look.the-variants as Look
 use Rattle.writer.proofs.Pools.{find-there, find-new, find-other, find-below, find-one, find-front, find-later, find-never, pigeons}
 use Rattle.writer.proofs.Links.{more, count-more, word-old, word-new, name-old, name-new, linked-more}
 

@@ -9,14 +9,14 @@ use Rattle.writer_spec.specs.Writer as Spec
 use Rattle.writer.specs.declared.Writer.{Writer}
 use Rattle.writer.specs.declared.Written.{Written}
 use Rattle.writer.specs.declared.Written.the-variants as Written
-use Rattle.writer.specs.declared.Fault.{Fault}
-use Rattle.writer.specs.declared.Fault.the-variants as Fault
-use Rattle.writer.specs.declared.Size.{Size}
-use Rattle.writer.specs.declared.Size.the-variants as Size
-use Rattle.writer.specs.declared.NameFound.{NameFound}
-use Rattle.writer.specs.declared.NameFound.the-variants as NameFound
-use Rattle.writer.specs.declared.Known.{Known}
-use Rattle.writer.specs.declared.Known.the-variants as Known
+use Rattle.writer.specs.declared.sizes.Fault.{Fault}
+use Rattle.writer.specs.declared.sizes.Fault.the-variants as Fault
+use Rattle.writer.specs.declared.sizes.Size.{Size}
+use Rattle.writer.specs.declared.sizes.Size.the-variants as Size
+use Rattle.writer.specs.declared.measure.NameFound.{NameFound}
+use Rattle.writer.specs.declared.measure.NameFound.the-variants as NameFound
+use Rattle.writer.specs.declared.put.Known.{Known}
+use Rattle.writer.specs.declared.put.Known.the-variants as Known
 
 -- ---- the public calls
 

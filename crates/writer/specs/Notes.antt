@@ -10,8 +10,8 @@ use Rattle.pool_index.specs.Slots.{slotOf}
 use Rattle.grammar.specs.Document.{Pool}
 use Rattle.writer_spec.specs.Encode.{find}
 use Rattle.writer_spec.specs.Faults.{stringFault}
-use Rattle.writer.specs.declared.Look.{Look}
-use Rattle.writer.specs.declared.Look.the-variants as Look
+use Rattle.writer.specs.declared.notes.Look.{Look}
+use Rattle.writer.specs.declared.notes.Look.the-variants as Look
 
 -- ---- a note's words: the name's span, its index in the pool, and the number of the note before it in its slot
 

@@ -16,16 +16,16 @@ use Rattle.writer_spec.specs.Faults.{stringFault}
 use Rattle.writer_spec.specs.Writer.{Writer, Lent, Refusal, sizesBad, stateBad, _before_, refuseIf, poolAt, meetsBad, rowRefusal, rowsRefusal, write}
 use Rattle.writer.specs.Answers.{lentOf, leftOf, knownOf}
 use Rattle.writer.specs.Notes.{Noted, Unnoted}
-use Rattle.writer.specs.declared.Known as Code
-use Rattle.writer.specs.declared.Tally.{Tally}
-use Rattle.writer.specs.declared.NameSize.{NameSize}
-use Rattle.writer.specs.declared.NameSize.the-variants as NameSize
-use Rattle.writer.specs.declared.RowSize.{RowSize}
-use Rattle.writer.specs.declared.RowSize.the-variants as RowSize
-use Rattle.writer.specs.declared.Measured.{Measured}
-use Rattle.writer.specs.declared.Measured.the-variants as Measured
-use Rattle.writer.specs.declared.Outcome.{Outcome}
-use Rattle.writer.specs.declared.Outcome.the-variants as Outcome
+use Rattle.writer.specs.declared.put.Known as Code
+use Rattle.writer.specs.declared.measure.Tally.{Tally}
+use Rattle.writer.specs.declared.measure.NameSize.{NameSize}
+use Rattle.writer.specs.declared.measure.NameSize.the-variants as NameSize
+use Rattle.writer.specs.declared.measure.RowSize.{RowSize}
+use Rattle.writer.specs.declared.measure.RowSize.the-variants as RowSize
+use Rattle.writer.specs.declared.measure.Measured.{Measured}
+use Rattle.writer.specs.declared.measure.Measured.the-variants as Measured
+use Rattle.writer.specs.declared.tries.Outcome.{Outcome}
+use Rattle.writer.specs.declared.tries.Outcome.the-variants as Outcome
 
 -- ---- rooms and places
 

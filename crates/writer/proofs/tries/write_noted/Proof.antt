@@ -1,0 +1,152 @@
+use borrow.Author.Needs.{needs}
+use Rattle.writer.proofs.tries.write_noted.Statement.{statement}
+use Rattle.writer.proofs.tries.write_noted.Tie as tie
+use native.Mathlib.Omega.{arith}
+use mathlib.Core.Path.{refl, sym, _∙_}
+use lib.Seq.{length-take-le}
+use Rattle.writer_spec.specs.Writer.{rowsIn}
+use Rattle.writer.specs.Answers.{lentOf, stateOf}
+use Rattle.writer_spec.specs.Laws.{list-rows}
+use Rattle.writer.proofs.Calls.{sizes-passed, state-passed, whole-rows, stops-rows, goes-through, measured-ready}
+
+measure-requires : tie.Need-measure-requires
+measure-requires c κs = let a = c .before .before .before .before .before .before .before .before .before .before .before .before .before .before .args in
+    let p = c .before .before .before .before .before .before .before .before .before .before .before .before .before .before .pre .1 in
+    let f = a .first .now in
+    let s = a .second .now in
+    let o = a .output .now in
+    let t = a .pool .now in
+    let w = a .rows .now in
+    let sizes = sizes-passed o t (p .1 .0) in
+    let state = state-passed o t (stateOf (a .writer)) (p .1 .1 .0) in
+    (c .before .before .before .before .before .before .before .before .before .before .before .before .before .before .pre .0, (whole-rows f s w (p .0), ((sizes .0, state .0), ((state .1, omega (arith, sizes .1, state .1)), (p .1 .1 .1 .0, p .1 .1 .1 .1)))))
+
+enum-known-r : tie.Need-enum-known-r
+enum-known-r c = search needs
+
+enum-told : tie.Need-enum-told
+enum-told c = search needs
+
+enum-known-used : tie.Need-enum-known-used
+enum-known-used c = search needs
+
+slice-reshare-prefix-write-rows : tie.Need-slice-reshare-prefix-write-rows
+slice-reshare-prefix-write-rows c = let said = rw (c .before .before .before .used .given .1) at (c .before .before .before .before .before .before .before .before .before .before .before .measure .ensures) in
+    said .0
+
+slice-aggregate-write-rows : tie.Need-slice-aggregate-write-rows
+slice-aggregate-write-rows c = let said = rw (c .before .before .before .before .used .given .1) at (c .before .before .before .before .before .before .before .before .before .before .before .before .measure .ensures) in
+    sym (length-take-le (c .before .before .before .before .used .given .0 .0) (c .before .before .before .before .before .before .before .before .before .before .before .before .measure .last .1 .1 .1 .1 .1 .1 .0) (said .0))
+
+write-rows-requires : tie.Need-write-rows-requires
+write-rows-requires c κs = let a = c .before .before .before .before .before .before .before .before .before .before .before .before .before .before .before .before .before .before .before .before .before .before .before .before .before .before .before .before .before .args in
+    let p = c .before .before .before .before .before .before .before .before .before .before .before .before .before .before .before .before .before .before .before .before .before .before .before .before .before .before .before .before .before .pre .1 in
+    let f = a .first .now in
+    let s = a .second .now in
+    let o = a .output .now in
+    let t = a .pool .now in
+    let w = a .rows .now in
+    let sizes = sizes-passed o t (p .1 .0) in
+    let state = state-passed o t (stateOf (a .writer)) (p .1 .1 .0) in
+    let said = rw (c .before .before .before .before .before .before .used .given .1) at (c .before .before .before .before .before .before .before .before .before .before .before .before .before .before .measure .ensures) in
+    (whole-rows f s w (p .0), (list-rows f s w (p .0), (sizes .0, ((rw (c .before .before .before .before .before .before .before .before .before .before .before .before .before .before .measure .kept .1 .1 .1 .1 .1 .1 .1 .0) (p .1 .1 .1 .0 .0), rw (c .before .before .before .before .before .before .before .before .before .before .before .before .before .before .measure .kept .1 .1 .1 .1 .1 .1 .1 .1 .0) (p .1 .1 .1 .1)), measured-ready f s o t w _ _ (a .writer .names) (a .writer .written) _ (state .0) (state .1) said))))
+
+same-length : tie.Need-same-length
+same-length c = search needs
+
+same-length-2 : tie.Need-same-length-2
+same-length-2 c = search needs
+
+same-length-3 : tie.Need-same-length-3
+same-length-3 c = search needs
+
+same-length-4 : tie.Need-same-length-4
+same-length-4 c = search needs
+
+same-length-5 : tie.Need-same-length-5
+same-length-5 c = search needs
+
+returns : tie.Need-returns
+returns c = let a = c .before .before .before .before .before .before .before .before .before .before .before .before .before .before .before .before .before .before .before .before .before .before .before .before .args in
+    let p = c .before .before .before .before .before .before .before .before .before .before .before .before .before .before .before .before .before .before .before .before .before .before .before .before .pre .1 in
+    let f = a .first .now in
+    let s = a .second .now in
+    let o = a .output .now in
+    let t = a .pool .now in
+    let w = a .rows .now in
+    stops-rows (stateOf (a .writer)) (lentOf o t) (rowsIn f s w) (p .1 .0) (p .1 .1 .0) _ _ (rw (c .before .r .given .1) at (c .before .before .before .before .before .before .before .before .before .measure .ensures))
+
+same-length-6 : tie.Need-same-length-6
+same-length-6 c = search needs
+
+same-length-7 : tie.Need-same-length-7
+same-length-7 c = search needs
+
+same-length-8 : tie.Need-same-length-8
+same-length-8 c = search needs
+
+same-length-9 : tie.Need-same-length-9
+same-length-9 c = search needs
+
+same-length-10 : tie.Need-same-length-10
+same-length-10 c = search needs
+
+returns-2 : tie.Need-returns-2
+returns-2 c = let said = rw (c .enum-told .given .1) at (c .before .before .before .before .before .before .before .before .measure .ensures) in
+    (refl, rw (c .before .before .before .before .before .before .before .before .measure .kept .1 .1 .1 .1 .1 .1 .0) at said)
+
+same-length-11 : tie.Need-same-length-11
+same-length-11 c = search needs
+
+same-length-12 : tie.Need-same-length-12
+same-length-12 c = search needs
+
+same-length-13 : tie.Need-same-length-13
+same-length-13 c = search needs
+
+same-length-14 : tie.Need-same-length-14
+same-length-14 c = search needs
+
+same-length-15 : tie.Need-same-length-15
+same-length-15 c = search needs
+
+returns-3 : tie.Need-returns-3
+returns-3 c = let a = c .before .before .before .before .before .before .before .before .before .before .before .before .before .before .before .before .before .before .before .before .before .before .before .before .before .before .before .before .before .before .before .before .before .before .args in
+    let p = c .before .before .before .before .before .before .before .before .before .before .before .before .before .before .before .before .before .before .before .before .before .before .before .before .before .before .before .before .before .before .before .before .before .before .pre .1 in
+    let f = a .first .now in
+    let s = a .second .now in
+    let o = a .output .now in
+    let t = a .pool .now in
+    let w = a .rows .now in
+    let said = rw (c .before .before .before .before .before .before .before .before .before .before .before .used .given .1) at (c .before .before .before .before .before .before .before .before .before .before .before .before .before .before .before .before .before .before .before .measure .ensures) in
+    c .before .before .before .before .write-rows .ensures ∙ goes-through (stateOf (a .writer)) (lentOf o t) (rowsIn f s w) (p .1 .0) (p .1 .1 .0) (said .1)
+
+pub write-noted-spec : {M : Type 1} → statement M
+write-noted-spec =
+    tie.close
+    (tie.spec
+    measure-requires
+    enum-known-r
+    enum-told
+    enum-known-used
+    slice-reshare-prefix-write-rows
+    slice-aggregate-write-rows
+    write-rows-requires
+    same-length
+    same-length-2
+    same-length-3
+    same-length-4
+    same-length-5
+    returns
+    same-length-6
+    same-length-7
+    same-length-8
+    same-length-9
+    same-length-10
+    returns-2
+    same-length-11
+    same-length-12
+    same-length-13
+    same-length-14
+    same-length-15
+    returns-3)
