@@ -3,8 +3,8 @@ use mathlib.Core.List.{List, [], _∷_}
 use mathlib.Core.Path.{_≡_, _∙_}
 use Prim.Native.Nat.{ℕ, suc, _+_, _*_, _≤_, _<_}
 use native.Mathlib.Omega.{arith}
-use lib.ListN.{length, getD, set, take, drop, length-drop}
-use lib.Seq.{sets, length-sets, take-suc, take-add, drop-cons, length-take-le, getD-drop, drop-drop, drop-set-lt, set-getD, getD-set-other}
+use lib.ListN.{length, getD, take, drop}
+use lib.Seq.{sets, take-add, drop-cons, length-take-le}
 use Rattle.grammar.specs.Stores.{sets-append}
 
 -- eight words from a place on

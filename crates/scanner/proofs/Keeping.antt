@@ -7,7 +7,7 @@ use native.Mathlib.Numerals.{add-one}
 use native.Mathlib.Omega.{arith}
 use borrow.Author.Tests.{lt-ltb, le-ltb}
 use lib.ListN.{length, getD, set, take, drop, length-drop}
-use lib.Seq.{sets, length-sets, take-suc, take-add, drop-cons, length-take-le, getD-drop, drop-drop, drop-set-lt, set-getD, getD-set-other}
+use lib.Seq.{sets, length-sets, take-suc, length-take-le, getD-drop, drop-drop, drop-set-lt, set-getD, getD-set-other}
 use Rattle.grammar.specs.Grammar.{Span, new, Item, countedName, most}
 use Rattle.grammar.specs.Document.{bytesAt}
 use Rattle.grammar.specs.Scan.{addsRef, addsName, addsValue, addsItem, lengths, pairs, copiedPairs, joined}
@@ -45,17 +45,7 @@ unfolding addsItem
 item-kept table table₁ table₂ names base more i m e f =
     f ∙ rw (e, pairs-turn table names base more (addsName names (i .name)) (addsValue more (i .value)) (m ∙ countedName-adds names (i .name)), m)
 
--- ---- bytes one by one
-
--- one byte more
-pub copy-turn : (s : List ℕ) (start len : ℕ) (store : List ℕ) (to i : ℕ) (now : List ℕ) → start + len ≤ length s → i < len → now ≡ sets store to (take i (drop start s))
-    → set now (to + i) (getD s (start + i) 0) ≡ sets store to (take (i + 1) (drop start s))
-copy-turn s start len store to i now h k e =
-    let d : List ℕ = drop start s in
-    let l : length (take i d) ≡ i = length-take-le i d (simp length-drop (omega arith)) in
-    let x : getD s (start + i) 0 ≡ getD d i 0 = sym (getD-drop start s i 0) in
-    let t : take (i + 1) d ≡ take i d ++ (getD d i 0 ∷ []) = rw add-one (take-suc d i 0 (simp length-drop (omega arith))) in
-    rw (e, x, t, sets-append store to (take i d) (getD d i 0 ∷ []), l)
+-- ---- words one by one
 
 -- one word more
 pub words-turn : (words rows : List ℕ) (n i : ℕ) (now : List ℕ) → n ≤ length words → i < n → now ≡ sets rows 0 (take i words)

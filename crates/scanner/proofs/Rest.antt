@@ -106,12 +106,6 @@ module _ (finished : Bool) (s table : List ℕ) where
       pub attribute-small : ItemSmall i
       attribute-small = fits-small (length s) l (t .pool .names) i (fine .2)
 
-      pub attribute-moves : at < n
-      attribute-moves = fine .0
-
-      pub attribute-within : n ≤ length s
-      attribute-within = fine .1
-
 -- the attributes end before the input does, or with it
 module _ (finished : Bool) (s : List ℕ) (t : Tally) (at : ℕ) where
   pub inside : at < length s → asTold t (outcome finished (whole at false)) ≡ asTold t (outcome finished (whole at (leb (length s) at)))

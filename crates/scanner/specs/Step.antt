@@ -1,6 +1,6 @@
 -- One event: read and, where there is room, written. The slice reader and the chunk reader share this step.
 use mathlib.Core.Bool.{Bool, true, _||_, _&&_, cond}
-use mathlib.Core.List.{List, []}
+use mathlib.Core.List.{List}
 use mathlib.Core.Path.{_≡_}
 use Prim.Native.Nat.{ℕ, _+_, _*_, _/_, _≤_, _<_}
 use lib.ListN.{length}

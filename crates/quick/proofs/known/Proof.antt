@@ -9,7 +9,6 @@ use Rattle.quick.proofs.field.Reads as field-reads
 use native.Mathlib.Omega.{arith}
 use Rattle.quick.proofs.Flats.{in-store, known-flat}
 use Rattle.grammar.specs.Scan.{sound}
-use mathlib.Core.Path.{sym, _∙_}
 
 field-requires : tie.Need-field-requires
 field-requires c κs = search needs
