@@ -1,4 +1,4 @@
-// The slice reader that carries the caller's document with it: a struct over the calls of crate slice.
+// The slice reader that carries the caller's document with it: a struct over the calls of the crates slice and slice_queries.
 use slice::Created;
 use slice::Next;
 use slice::Place;

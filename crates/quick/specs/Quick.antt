@@ -93,7 +93,6 @@ pub record ReadEvent (is : Items) (names source base : ℕ) (table ws ws′ : Li
   pub stored : ws′ ≡ sets ws 0 (words source base table is)
 
 -- nothing was read and written; or an event that is complete, whether more bytes come or not, with no new name
-
 pub data Quickly (is : Items) (names source base : ℕ) (table rows rows′ : List ℕ) (t : Taken) : Type 0 where
   declined : t .len ≡ 0 → rows′ ≡ rows → Quickly is names source base table rows rows′ t
   taken : 0 < t .len → ((finished : Bool) → outcome finished is ≡ complete (t .len)) → count is ≡ t .rows → t .rows ≤ length rows / 8 → adds names is ≡ []

@@ -10,7 +10,7 @@ ghost use Rattle.scanner.specs.Answers.{numberOf, textOf, nameOf, valueR
 ghost use Rattle.grammar.specs.Names.{newName};
 ghost use Rattle.scanner.specs.Turn.{soundOf};
 
-// ---- fields
+// ---- numbers and strings
 
 pub enum Number {
     Read { value: u32, next: usize },

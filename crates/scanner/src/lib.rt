@@ -97,7 +97,7 @@ fn read(
     }
 }
 
-// ---- the quick way first
+// ---- the step: what it checks first, the quick way, the two passes
 
 // Whether a store that a span lies in, of the input or of names, is longer than any may be.
 fn is_too_long(base: usize, len: usize, copied: bool, store: usize) -> bool

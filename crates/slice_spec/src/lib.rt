@@ -1,1 +1,1 @@
-// Definitions and laws alone, in specs/; the code that meets them is the crate `slice`.
+// Definitions and laws alone, in specs/; the code that meets them is the crates `slice` and `slice_queries`.

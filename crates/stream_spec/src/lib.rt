@@ -1,1 +1,1 @@
-// Definitions and laws alone, in specs/; the code that meets them is the crate `stream`.
+// Definitions and laws alone, in specs/; the code that meets them is the crates `stream` and `stream_next`.

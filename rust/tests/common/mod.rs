@@ -1,6 +1,8 @@
 //! Documents, and all ways to read one.
 #![allow(dead_code)]
 
+use std::iter::from_fn;
+
 use abx::{
     AbxError, AbxParser, AbxPushParser, AbxStreamParser, Attribute, AttributeValue, Event, Next,
 };
@@ -31,32 +33,22 @@ pub fn by_source(document: &[u8]) -> Read {
 
 /// The same by borrowed events, each made one that owns its strings.
 pub fn by_slice_borrowed(document: &[u8]) -> Read {
-    let mut parser = match AbxParser::new(document) {
-        Err(error) => return (vec![], Some(told(error))),
-        Ok(parser) => parser,
-    };
-    let mut events = vec![];
-    loop {
-        match parser.next_ref() {
-            Ok(Some(event)) => events.push(event.to_event()),
-            Ok(None) => return (events, None),
-            Err(error) => return (events, Some(told(error))),
-        }
+    match AbxParser::new(document) {
+        Err(error) => (vec![], Some(told(error))),
+        Ok(mut parser) => gather(from_fn(|| {
+            let event = parser.next_ref().map(|event| event.map(Event::from));
+            event.transpose()
+        })),
     }
 }
 
 pub fn by_source_borrowed(document: &[u8]) -> Read {
-    let mut parser = match AbxStreamParser::new(document) {
-        Err(error) => return (vec![], Some(told(error))),
-        Ok(parser) => parser,
-    };
-    let mut events = vec![];
-    loop {
-        match parser.next_ref() {
-            Ok(Some(event)) => events.push(event.into()),
-            Ok(None) => return (events, None),
-            Err(error) => return (events, Some(told(error))),
-        }
+    match AbxStreamParser::new(document) {
+        Err(error) => (vec![], Some(told(error))),
+        Ok(mut parser) => gather(from_fn(|| {
+            let event = parser.next_ref().map(|event| event.map(Event::from));
+            event.transpose()
+        })),
     }
 }
 
