@@ -10,10 +10,21 @@ use Rattle.event.specs.Row.{shapes}
 use Rattle.event.specs.declared.Shape.{Shape}
 use Rattle.event.specs.declared.Shape.the-variants as Shape
 use Rattle.grammar.specs.Reader.{Reader, got}
-use Rattle.grammar.specs.Grammar.{Span, known, Value, Item, Items, countedValue, after, name, value, attribute}
-use Rattle.grammar.specs.Scan.{addsValue, addsItem, adds, count, valueWords, itemWords, words, outcome, complete}
+use Rattle.grammar.specs.Grammar.{Span, known, Value, Item, Items, countedValue, after, name, value, attribute, attributesF, event}
+use Rattle.grammar.specs.Scan.{sound, addsValue, addsItem, adds, count, valueWords, itemWords, words, outcome, complete}
+use Rattle.quick.specs.declared.Pool.{Pool}
 use Rattle.quick.specs.declared.Flat.{Flat}
 use Rattle.quick.specs.declared.Taken.{Taken}
+
+-- the pool's entries that are sound; the attributes from a place on, and the event
+abbrev pub soundOf : Pool → List ℕ → ℕ → Bool
+soundOf pool table = sound (pool .names) table (pool .stored)
+
+abbrev pub attributesOf : Pool → List ℕ → List ℕ → ℕ → Items
+attributesOf pool table s at = attributesF (soundOf pool table) (length s) (pool .names) s at
+
+abbrev pub eventOf : Pool → List ℕ → List ℕ → Items
+eventOf pool table s = event (soundOf pool table) (pool .names) s
 
 abbrev pub wordsOf : Flat → List ℕ
 wordsOf f = f .source ∷ f .a ∷ f .b ∷ []

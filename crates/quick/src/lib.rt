@@ -14,10 +14,10 @@ ghost use Rattle.grammar.specs.Reader.{got};
 ghost use Rattle.wire.specs.Header.{u32At};
 ghost use Rattle.wire.specs.Token.{command, startTag, endTag};
 ghost use Rattle.wire.specs.Limits.{maxStore, maxUnsignedShort};
-ghost use Rattle.grammar.specs.Grammar.{u16, blob, string, attributesF, event};
+ghost use Rattle.grammar.specs.Grammar.{u16, blob, string, event};
 ghost use Rattle.grammar.specs.Document.{typeOf};
 ghost use Rattle.grammar.specs.Scan.{sound};
-ghost use Rattle.quick.specs.Quick.{wordCounts, wordsOf, KnownName, ReadSpan, ReadNumber, ReadValue, ReadAttribute, ReadRest, ReadEvent, Quickly};
+ghost use Rattle.quick.specs.Quick.{soundOf, attributesOf, eventOf, wordCounts, wordsOf, KnownName, ReadSpan, ReadNumber, ReadValue, ReadAttribute, ReadRest, ReadEvent, Quickly};
 
 // So many entries of the table are names, whose spans must end in a store of so many bytes.
 struct Pool {
@@ -69,7 +69,7 @@ fn word(s: &[u8], at: usize) -> u32
 fn known(s: &[u8], at: usize, source: u32, table: &[u32], pool: Pool) -> Flat
     requires { ⌜ at + 2 ≤ length (now s) ⌝ }
     requires { ⌜ 2 * pool .names ≤ length (now table) ⌝ }
-    ensures { λ r. ⌜ (0 < r .next → KnownName (sound (pool .names) (now (table .entry)) (pool .stored)) (pool .names) (now (s .entry)) at source (now (table .entry)) r) ⌝ }
+    ensures { λ r. ⌜ (0 < r .next → KnownName (soundOf pool (now (table .entry))) (pool .names) (now (s .entry)) at source (now (table .entry)) r) ⌝ }
 {
     let index = field(s, at);
     if index == wire::INTERNED_NEW as usize {
@@ -164,7 +164,7 @@ fn value(
     requires { ⌜ now counts ≡ wordCounts ⌝ }
     requires { ⌜ «type_» < 16 ⌝ }
     requires { ⌜ 2 * pool .names ≤ length (now table) ⌝ }
-    ensures { λ r. ⌜ (0 < r .next → ReadValue (sound (pool .names) (now (table .entry)) (pool .stored)) (pool .names) «type_» (now (s .entry)) at source base (now (table .entry)) r) ⌝ }
+    ensures { λ r. ⌜ (0 < r .next → ReadValue (soundOf pool (now (table .entry))) (pool .names) «type_» (now (s .entry)) at source base (now (table .entry)) r) ⌝ }
 {
     let count = counts[type_ as usize] as usize;
     if count < 3 {
@@ -227,7 +227,7 @@ fn attribute(
     requires { ⌜ now counts ≡ wordCounts ⌝ }
     requires { ⌜ 2 * pool .names ≤ length (now table) ⌝ }
     requires { ⌜ to + 8 ≤ length (now words) ⌝ }
-    ensures { λ r. ⌜ (0 < r → ReadAttribute (sound (pool .names) (now (table .entry)) (pool .stored)) (pool .names) (now (s .entry)) at source base (now (table .entry)) (now (words .entry)) (now (words .exit)) to r) ⌝ }
+    ensures { λ r. ⌜ (0 < r → ReadAttribute (soundOf pool (now (table .entry))) (pool .names) (now (s .entry)) at source base (now (table .entry)) (now (words .entry)) (now (words .exit)) to r) ⌝ }
 {
     if s.len() - at < 11 {
         return 0;
@@ -255,7 +255,7 @@ fn rest(
     requires { ⌜ (from ≤ length (now s)) × (base + length (now s) ≤ maxStore) ⌝ }
     requires { ⌜ 2 * pool .names ≤ length (now table) ⌝ }
     requires { ⌜ 80 ≤ length (now words) ⌝ }
-    ensures { λ r. ⌜ (0 < r .len → ReadRest (attributesF (sound (pool .names) (now (table .entry)) (pool .stored)) (length (now (s .entry))) (pool .names) (now (s .entry)) from) (pool .names) source base (now (table .entry)) (now (words .entry)) (now (words .exit)) r) ⌝ }
+    ensures { λ r. ⌜ (0 < r .len → ReadRest (attributesOf pool (now (table .entry)) (now (s .entry)) from) (pool .names) source base (now (table .entry)) (now (words .entry)) (now (words .exit)) r) ⌝ }
 {
     let counts = COUNTS;
     let mut at = from;
@@ -293,7 +293,7 @@ fn start_tag(
     requires { ⌜ 2 * pool .names ≤ length (now table) ⌝ }
     requires { ⌜ command (getD (now s) 0 0) ≡ startTag ⌝ }
     requires { ⌜ 80 ≤ length (now words) ⌝ }
-    ensures { λ r. ⌜ (0 < r .len → ReadEvent (event (sound (pool .names) (now (table .entry)) (pool .stored)) (pool .names) (now (s .entry))) (pool .names) source base (now (table .entry)) (now (words .entry)) (now (words .exit)) r) ⌝ }
+    ensures { λ r. ⌜ (0 < r .len → ReadEvent (eventOf pool (now (table .entry)) (now (s .entry))) (pool .names) source base (now (table .entry)) (now (words .entry)) (now (words .exit)) r) ⌝ }
 {
     let name = known(s, 1, source, table, pool);
     if name.next == 0 {
@@ -314,7 +314,7 @@ fn end_tag(s: &[u8], base: usize, source: u32, table: &[u32], pool: Pool, rows: 
     requires { ⌜ 3 ≤ length (now s) ⌝ }
     requires { ⌜ 2 * pool .names ≤ length (now table) ⌝ }
     requires { ⌜ command (getD (now s) 0 0) ≡ endTag ⌝ }
-    ensures { λ r. ⌜ Quickly (event (sound (pool .names) (now (table .entry)) (pool .stored)) (pool .names) (now (s .entry))) (pool .names) source base (now (table .entry)) (now (rows .entry)) (now (rows .exit)) r ⌝ }
+    ensures { λ r. ⌜ Quickly (eventOf pool (now (table .entry)) (now (s .entry))) (pool .names) source base (now (table .entry)) (now (rows .entry)) (now (rows .exit)) r ⌝ }
 {
     let no = Taken { rows: 0, len: 0 };
     if rows.len() < 8 {
@@ -380,7 +380,7 @@ fn read_tag(
 ) -> Taken
     requires { ⌜ base + length (now s) ≤ maxStore ⌝ }
     requires { ⌜ 2 * pool .names ≤ length (now table) ⌝ }
-    ensures { λ r. ⌜ Quickly (event (sound (pool .names) (now (table .entry)) (pool .stored)) (pool .names) (now (s .entry))) (pool .names) source base (now (table .entry)) (now (rows .entry)) (now (rows .exit)) r ⌝ }
+    ensures { λ r. ⌜ Quickly (eventOf pool (now (table .entry)) (now (s .entry))) (pool .names) source base (now (table .entry)) (now (rows .entry)) (now (rows .exit)) r ⌝ }
 {
     let no = Taken { rows: 0, len: 0 };
     if s.len() < 3 {
