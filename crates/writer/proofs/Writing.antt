@@ -8,8 +8,9 @@ use native.Mathlib.Nat.{sub-zero}
 use native.Mathlib.Omega.{arith}
 use borrow.Author.Tests.{lt-ltb, le-ltb, ltb-true, ltb-false, leb-true, eqb-true}
 use lib.Dec.{ltb, leb, eqb}
-use lib.ListN.{length, getD, drop, length-append, List·getD-eq-default}
+use lib.ListN.{length, getD, take, drop, length-append, length-drop, List·getD-eq-default}
 use lib.Seq.{sets, length-sets}
+use Rattle.wire.specs.Limits.{maxStore}
 use Rattle.event.specs.Span.{spanIn}
 use Rattle.event.specs.Row.{Row, shape, shapes, hasName, rowAt}
 use Rattle.event.specs.Words.{valueForms, attributeForms, rowForms, rowFormsIn, zeros, opens, rowsForm}
@@ -22,13 +23,15 @@ use Rattle.grammar.specs.Stores.{sets-append}
 use Rattle.grammar.specs.Choice.{byTest}
 use Rattle.writer_spec.specs.Encode.{find, nameBytes, keep, rowBytes, keepRow, rowsBytes, keepRows}
 use Rattle.writer_spec.specs.Laws.{pool-count}
-use Rattle.writer_spec.specs.Writer.{wrote, rowPairs, rowsPairs, append, rowsIn}
+use Rattle.writer_spec.specs.Writer.{wrote, meetsBad, rowPairs, rowsPairs, append, rowsIn}
 use Rattle.writer_spec.specs.Held.{pairs-count}
-use Rattle.writer.specs.Answers.{lentOf, leftOf}
-use Rattle.writer.specs.Passes.{Settled, AllSettled, found, namedBy, rowBy, tokenIn, joinsBy, pairsBy}
+use Rattle.writer.specs.Answers.{lentOf, leftOf, knownOf}
+use Rattle.writer.specs.Notes.{Linked}
+use Rattle.writer.specs.Passes.{Settled, AllSettled, found, Ready, KnownSays, namedBy, rowBy, tokenIn, joinsBy, pairsBy}
 use Rattle.writer.specs.declared.Written.the-variants as Written
+use Rattle.writer.specs.declared.put.Known as Code
 use Rattle.writer.proofs.Pools.{keep-there, keep-new, keep-full, rows-grow}
-use Rattle.writer.proofs.Turns.{rest, rest-more, rest-end, form-more}
+use Rattle.writer.proofs.Turns.{to-end, rest, rest-more, rest-end, form-more}
 
 -- ---- tokens are bytes
 
@@ -165,8 +168,8 @@ module _ (first second output₀ table₀ rows : List ℕ) (kept written : ℕ) 
         table-length = refl;
       }
 
-  module _ (row at names : ℕ) (output table : List ℕ) (m : Writing row at names output table)
-      (fits : written + length (rowsBytes pool₀ all) ≤ length output₀) (pairs-fit : 2 * length last ≤ length table₀) where
+  module _ (row at names : ℕ) (output table heads : List ℕ) (m : Writing row at names output table)
+      (ready : Ready first second output₀ table₀ kept written all notes heads) where
     module _ (h : row < length rows) (w : length rows % 8 ≡ 0) where
       abbrev pub this : Row
       this = rowAt first second (drop row rows)
@@ -177,10 +180,20 @@ module _ (first second output₀ table₀ rows : List ℕ) (kept written : ℕ) 
       this-first : rest first second rows row ≡ this ∷ after
       this-first = rest-more first second rows w row (m .aligned) h
 
-      pub token-fits : tokenIn (drop row rows) < 256
+      whole-row : 8 ≤ length (drop row rows)
+      whole-row = omega (arith, length-drop row rows, m .aligned)
+
+      -- the bounds of a place, for the loop
+      pub turn-ends : row + 8 ≤ length rows
+      turn-ends = omega (arith, m .aligned)
+
+      pub turn-asks : (8 ≤ length (take (length rows - row) (drop row rows))) × Linked first second notes heads
+      turn-asks = rw (to-end rows row) (whole-row, ready .knows .linked)
+
+      token-fits : tokenIn (drop row rows) < 256
       token-fits = token-small first second (m .inside) (drop row rows) (form-more first second rows w row (m .aligned) (m .inside) h (m .formed) .0)
 
-      pub settled-here : hasName (this .kind) ≡ true → Settled first second (m .pool ++ m .more) notes (this .name)
+      settled-here : hasName (this .kind) ≡ true → Settled first second (m .pool ++ m .more) notes (this .name)
       settled-here c = (let s : AllSettled first second last notes (this ∷ after) = rw this-first at (m .settled) in rw (← m .pool-grows) (s .0 c))
 
       -- where its name stands
@@ -208,19 +221,19 @@ module _ (first second output₀ table₀ rows : List ℕ) (kept written : ℕ) 
         length-split : size + length (rowsBytes pool′ after) ≡ length (rowsBytes (m .pool) (rest first second rows row))
         length-split = sym (ap length bytes-split ∙ length-append (rowBy o this) (rowsBytes pool′ after))
 
-        pub row-fits : at + size ≤ length output
-        row-fits = omega (arith, length-split, m .place, m .output-length)
+        row-fits : at + size ≤ length output
+        row-fits = omega (arith, length-split, m .place, m .output-length, ready .bytes-fit)
 
-        pub at-fits : at ≤ length output₀
-        at-fits = omega (arith, m .place)
+        at-fits : at ≤ length output₀
+        at-fits = omega (arith, m .place, ready .bytes-fit)
 
         twice : 2 * names + length (pairsBy o this names at) ≡ 2 * length pool′
         twice = rw (m .names-are) at (pairs-twice (m .pool) this o e at)
 
-        pub pair-fits : 2 * names + length (pairsBy o this names at) ≤ length table
-        pair-fits = omega (arith, twice, pairs-count after 0 pool′, ap length pool-split, m .table-length)
+        pair-fits : 2 * names + length (pairsBy o this names at) ≤ length table
+        pair-fits = omega (arith, twice, pairs-count after 0 pool′, ap length pool-split, m .table-length, ready .pairs-fit)
 
-        pub goes-on : (output′ table′ : List ℕ) (at′ names′ : ℕ) → output′ ≡ sets output at (rowBy o this) → at′ ≡ at + size
+        goes-on : (output′ table′ : List ℕ) (at′ names′ : ℕ) → output′ ≡ sets output at (rowBy o this) → at′ ≡ at + size
             → table′ ≡ sets table (2 * names) (pairsBy o this names at) → names′ ≡ cond (joinsBy o this names) (names + 1) names
             → Writing (row + 8) at′ names′ output′ table′
         goes-on output′ table′ at′ names′ b p t n =
@@ -246,6 +259,33 @@ module _ (first second output₀ table₀ rows : List ℕ) (kept written : ℕ) 
               output-length = ap length b ∙ length-sets output at (rowBy o this) ∙ m .output-length;
               table-length = ap length t ∙ length-sets table (2 * names) (pairsBy o this names at) ∙ m .table-length;
             }
+
+      -- the words that a turn is given, and what it is told of the name
+      abbrev words : List ℕ
+      words = take (length rows - row) (drop row rows)
+
+      module _ (known : Code.Known) (says : KnownSays first second notes heads names (rowAt first second words) known) where
+        abbrev stands : Option ℕ
+        stands = knownOf known
+
+        where-it-stands : stands ≡ cond (hasName (this .kind)) (find (m .pool) (this .name)) none
+        where-it-stands =
+            let at-row : KnownSays first second notes heads names this known = rw (to-end rows row) at says in
+            at-row (meetsBad output₀ kept table₀) pool₀ (m .pool) (m .more) (m .names-are) (rw (m .pool-grows) at (ready .knows)) settled-here
+
+        pub row-asks : (8 ≤ length words) × ((tokenIn words < 256) × (at + length (rowBy stands (rowAt first second words)) ≤ length output))
+        row-asks = rw (to-end rows row) (whole-row, (token-fits, row-fits stands where-it-stands))
+
+        pub keep-asks : length output₀ ≤ maxStore
+            → (8 ≤ length words) × ((at ≤ maxStore) × (2 * names + length (pairsBy stands (rowAt first second words) names at) ≤ length table))
+        keep-asks s = rw (to-end rows row) (whole-row, (omega (arith, at-fits stands where-it-stands), pair-fits stands where-it-stands))
+
+        pub turns : (output′ table′ : List ℕ) (at′ names′ : ℕ) → output′ ≡ sets output at (rowBy stands (rowAt first second words))
+            → at′ ≡ at + length (rowBy stands (rowAt first second words)) → table′ ≡ sets table (2 * names) (pairsBy stands (rowAt first second words) names at)
+            → names′ ≡ cond (joinsBy stands (rowAt first second words) names) (names + 1) names → Writing (row + 8) at′ names′ output′ table′
+        turns output′ table′ at′ names′ b p t n =
+            let e = to-end rows row in
+            goes-on stands where-it-stands output′ table′ at′ names′ (rw e at b) (rw e at p) (rw e at t) (rw e at n)
 
     pub ended : length rows ≤ row → leftOf (Written.Wrote (record { written = at; names = names })) output table
         ≡ append (record { written = written; names = kept }) (lentOf output₀ table₀) all

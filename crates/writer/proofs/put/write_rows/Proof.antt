@@ -1,9 +1,8 @@
 use native.Mathlib.Omega.{arith}
 use borrow.Author.Needs.{needs}
 use Prim.Native.Nat.{_-_}
-use lib.ListN.{length, length-drop}
-use Rattle.writer.proofs.Turns.{to-end}
-use Rattle.writer.proofs.Writing.{Writing, begins, token-fits, settled-here, row-fits, at-fits, pair-fits, goes-on, ended}
+use lib.ListN.{length}
+use Rattle.writer.proofs.Writing.{Writing, begins, turn-ends, turn-asks, row-asks, keep-asks, turns, ended}
 use Rattle.writer.proofs.put.write_rows.Statement.{statement}
 use Rattle.writer.proofs.put.write_rows.Tie as tie
 
@@ -34,10 +33,8 @@ quick-known-name-requires : tie.Need-quick-known-name-requires Inv-loop μ-loop
 quick-known-name-requires c κs = let a = c .before .before .before .before .before .before .before .before .before .before .before .args in
     let p = c .before .before .before .before .before .before .before .before .before .before .before .pre in
     let l = c .before .before .loop in
-    let m = l .inv in
-    let q = p .1 .1 .1 .1 in
-    let e = to-end (a .rows .now) (l .word) in
-    (rw e (omega (arith, length-drop (l .word) (a .rows .now), m .aligned, p .0)), (p .1 .1 .1 .0, q .knows .linked))
+    let asked = turn-asks (a .first .now) (a .second .now) (a .output .now) (a .pool .now) (a .rows .now) (a .writer .names) (a .writer .written) (a .notes .now) (l .word) (l .at) (l .names) (l .output) (l .pool) (a .heads .now) (l .inv) (p .1 .1 .1 .1) (c .before .loop-test .taken) (p .0) in
+    (asked .0, (p .1 .1 .1 .0, asked .1))
 
 mul-write-row : tie.Need-mul-write-row Inv-loop μ-loop
 mul-write-row c = search needs
@@ -55,12 +52,7 @@ write-row-requires : tie.Need-write-row-requires Inv-loop μ-loop
 write-row-requires c κs = let a = c .before .before .before .before .before .before .before .before .before .before .before .before .before .before .args in
     let p = c .before .before .before .before .before .before .before .before .before .before .before .before .before .before .pre in
     let l = c .before .before .before .before .before .loop in
-    let m = l .inv in
-    let q = p .1 .1 .1 .1 in
-    let e = to-end (a .rows .now) (l .word) in
-    let known = rw e at (c .before .before .quick-known-name .ensures) in
-    let k = known _ _ (m .pool) (m .more) (m .names-are) (rw (m .pool-grows) at (q .knows)) (settled-here (a .first .now) (a .second .now) (a .output .now) (a .pool .now) (a .rows .now) (a .writer .names) (a .writer .written) (a .notes .now) (l .word) (l .at) (l .names) (l .output) (l .pool) m (q .bytes-fit) (q .pairs-fit) (omega arith) (p .0)) in
-    rw e (omega (arith, length-drop (l .word) (a .rows .now), m .aligned, p .0), (token-fits (a .first .now) (a .second .now) (a .output .now) (a .pool .now) (a .rows .now) (a .writer .names) (a .writer .written) (a .notes .now) (l .word) (l .at) (l .names) (l .output) (l .pool) m (q .bytes-fit) (q .pairs-fit) (omega arith) (p .0), row-fits (a .first .now) (a .second .now) (a .output .now) (a .pool .now) (a .rows .now) (a .writer .names) (a .writer .written) (a .notes .now) (l .word) (l .at) (l .names) (l .output) (l .pool) m (q .bytes-fit) (q .pairs-fit) (omega arith) (p .0) _ k))
+    row-asks (a .first .now) (a .second .now) (a .output .now) (a .pool .now) (a .rows .now) (a .writer .names) (a .writer .written) (a .notes .now) (l .word) (l .at) (l .names) (l .output) (l .pool) (a .heads .now) (l .inv) (p .1 .1 .1 .1) (c .before .before .before .before .loop-test .taken) (p .0) (c .before .before .quick-known-name .result) (c .before .before .quick-known-name .ensures)
 
 mul-keep-name : tie.Need-mul-keep-name Inv-loop μ-loop
 mul-keep-name c = search needs
@@ -78,41 +70,29 @@ keep-name-requires : tie.Need-keep-name-requires Inv-loop μ-loop
 keep-name-requires c κs = let a = c .before .before .before .before .before .before .before .before .before .before .before .before .before .before .before .before .before .before .before .args in
     let p = c .before .before .before .before .before .before .before .before .before .before .before .before .before .before .before .before .before .before .before .pre in
     let l = c .before .before .before .before .before .before .before .before .before .before .loop in
-    let m = l .inv in
-    let q = p .1 .1 .1 .1 in
-    let e = to-end (a .rows .now) (l .word) in
-    let known = rw e at (c .before .before .before .before .before .before .before .quick-known-name .ensures) in
-    let k = known _ _ (m .pool) (m .more) (m .names-are) (rw (m .pool-grows) at (q .knows)) (settled-here (a .first .now) (a .second .now) (a .output .now) (a .pool .now) (a .rows .now) (a .writer .names) (a .writer .written) (a .notes .now) (l .word) (l .at) (l .names) (l .output) (l .pool) m (q .bytes-fit) (q .pairs-fit) (omega arith) (p .0)) in
-    rw e (omega (arith, length-drop (l .word) (a .rows .now), m .aligned, p .0), (omega (arith, at-fits (a .first .now) (a .second .now) (a .output .now) (a .pool .now) (a .rows .now) (a .writer .names) (a .writer .written) (a .notes .now) (l .word) (l .at) (l .names) (l .output) (l .pool) m (q .bytes-fit) (q .pairs-fit) (omega arith) (p .0) _ k, p .1 .1 .0), pair-fits (a .first .now) (a .second .now) (a .output .now) (a .pool .now) (a .rows .now) (a .writer .names) (a .writer .written) (a .notes .now) (l .word) (l .at) (l .names) (l .output) (l .pool) m (q .bytes-fit) (q .pairs-fit) (omega arith) (p .0) _ k))
+    let asked = c .before .before .before .before .before .before .before .quick-known-name in
+    keep-asks (a .first .now) (a .second .now) (a .output .now) (a .pool .now) (a .rows .now) (a .writer .names) (a .writer .written) (a .notes .now) (l .word) (l .at) (l .names) (l .output) (l .pool) (a .heads .now) (l .inv) (p .1 .1 .1 .1) (c .before .before .before .before .before .before .before .before .before .loop-test .taken) (p .0) (asked .result) (asked .ensures) (p .1 .1 .0)
 
 add-word : tie.Need-add-word Inv-loop μ-loop
 add-word c = let a = c .before .before .before .before .before .before .before .before .before .before .before .before .before .before .before .before .before .before .before .before .before .before .args in
     let p = c .before .before .before .before .before .before .before .before .before .before .before .before .before .before .before .before .before .before .before .before .before .before .pre in
     let l = c .before .before .before .before .before .before .before .before .before .before .before .before .before .loop in
-    let m = l .inv in
-    let q = p .1 .1 .1 .1 in
-    let e = to-end (a .rows .now) (l .word) in
-    omega (arith, c .before .before .before .before .before .before .before .before .before .before .before .before .before .before .before .before .before .before .before .before .before .before .good .1 .1 .0, m .aligned, p .0)
+    omega (arith, turn-ends (a .first .now) (a .second .now) (a .output .now) (a .pool .now) (a .rows .now) (a .writer .names) (a .writer .written) (a .notes .now) (l .word) (l .at) (l .names) (l .output) (l .pool) (a .heads .now) (l .inv) (p .1 .1 .1 .1) (c .before .before .before .before .before .before .before .before .before .before .before .before .loop-test .taken) (p .0), c .before .before .before .before .before .before .before .before .before .before .before .before .before .before .before .before .before .before .before .before .before .before .good .1 .1 .0)
 
 loop-less : tie.Need-loop-less Inv-loop μ-loop
 loop-less c = let a = c .before .before .before .before .before .before .before .before .before .before .before .before .before .before .before .before .before .before .before .before .before .before .args in
     let p = c .before .before .before .before .before .before .before .before .before .before .before .before .before .before .before .before .before .before .before .before .before .before .pre in
     let l = c .before .before .before .before .before .before .before .before .before .before .before .before .before .loop in
-    let m = l .inv in
-    let q = p .1 .1 .1 .1 in
-    let e = to-end (a .rows .now) (l .word) in
-    omega (arith, m .aligned, p .0)
+    omega (arith, turn-ends (a .first .now) (a .second .now) (a .output .now) (a .pool .now) (a .rows .now) (a .writer .names) (a .writer .written) (a .notes .now) (l .word) (l .at) (l .names) (l .output) (l .pool) (a .heads .now) (l .inv) (p .1 .1 .1 .1) (c .before .before .before .before .before .before .before .before .before .before .before .before .loop-test .taken) (p .0))
 
 loop-again : tie.Need-loop-again Inv-loop μ-loop
 loop-again c = let a = c .before .before .before .before .before .before .before .before .before .before .before .before .before .before .before .before .before .before .before .before .before .before .args in
     let p = c .before .before .before .before .before .before .before .before .before .before .before .before .before .before .before .before .before .before .before .before .before .before .pre in
     let l = c .before .before .before .before .before .before .before .before .before .before .before .before .before .loop in
-    let m = l .inv in
-    let q = p .1 .1 .1 .1 in
-    let e = to-end (a .rows .now) (l .word) in
-    let known = rw e at (c .before .before .before .before .before .before .before .before .before .before .quick-known-name .ensures) in
-    let k = known _ _ (m .pool) (m .more) (m .names-are) (rw (m .pool-grows) at (q .knows)) (settled-here (a .first .now) (a .second .now) (a .output .now) (a .pool .now) (a .rows .now) (a .writer .names) (a .writer .written) (a .notes .now) (l .word) (l .at) (l .names) (l .output) (l .pool) m (q .bytes-fit) (q .pairs-fit) (omega arith) (p .0)) in
-    goes-on (a .first .now) (a .second .now) (a .output .now) (a .pool .now) (a .rows .now) (a .writer .names) (a .writer .written) (a .notes .now) (l .word) (l .at) (l .names) (l .output) (l .pool) m (q .bytes-fit) (q .pairs-fit) (omega arith) (p .0) _ k _ _ _ _ (rw e at (c .before .before .before .before .before .before .before .write-row .ensures .0)) (rw e at (c .before .before .before .before .before .before .before .write-row .ensures .1)) (rw e at (c .before .before .keep-name .ensures .0)) (rw e at (c .before .before .keep-name .ensures .1))
+    let asked = c .before .before .before .before .before .before .before .before .before .before .quick-known-name in
+    let row = c .before .before .before .before .before .before .before .write-row in
+    let name = c .before .before .keep-name in
+    turns (a .first .now) (a .second .now) (a .output .now) (a .pool .now) (a .rows .now) (a .writer .names) (a .writer .written) (a .notes .now) (l .word) (l .at) (l .names) (l .output) (l .pool) (a .heads .now) (l .inv) (p .1 .1 .1 .1) (c .before .before .before .before .before .before .before .before .before .before .before .before .loop-test .taken) (p .0) (asked .result) (asked .ensures) _ _ _ _ (row .ensures .0) (row .ensures .1) (name .ensures .0) (name .ensures .1)
 
 same-length : tie.Need-same-length Inv-loop μ-loop
 same-length c = c .before .loop .inv .output-length
@@ -124,10 +104,7 @@ returns : tie.Need-returns Inv-loop μ-loop
 returns c = let a = c .before .before .before .before .before .before .before .before .before .before .args in
     let p = c .before .before .before .before .before .before .before .before .before .before .pre in
     let l = c .before .loop in
-    let m = l .inv in
-    let q = p .1 .1 .1 .1 in
-    let e = to-end (a .rows .now) (l .word) in
-    ended (a .first .now) (a .second .now) (a .output .now) (a .pool .now) (a .rows .now) (a .writer .names) (a .writer .written) (a .notes .now) (l .word) (l .at) (l .names) (l .output) (l .pool) m (q .bytes-fit) (q .pairs-fit) (omega arith)
+    ended (a .first .now) (a .second .now) (a .output .now) (a .pool .now) (a .rows .now) (a .writer .names) (a .writer .written) (a .notes .now) (l .word) (l .at) (l .names) (l .output) (l .pool) (a .heads .now) (l .inv) (p .1 .1 .1 .1) (omega arith)
 
 pub write-rows-spec : {M : Type 1} → statement M
 write-rows-spec =
