@@ -16,9 +16,12 @@ use Rattle.writer_spec.specs.Writer.{Writer, Lent, refused, Left, Refusal, _bef
 use Rattle.grammar.specs.Choice.{neither}
 use Rattle.writer_spec.specs.Laws.{both-forms, pool-count}
 use Rattle.writer_spec.specs.Unrefused.{fits}
-use Rattle.writer.specs.Answers.{lentOf, formsBy}
+use Rattle.writer.specs.Answers.{lentOf, stateOf, formsBy}
 use Rattle.pool_index.specs.Slots.{Fresh}
-use Rattle.writer.specs.Passes.{most-notes, callFault, Slots, MeasureSays, Tried, Ready}
+use Rattle.writer.specs.Passes.{most-notes, callFault, Slots, MeasureSays, Tried, TriedBy, Ready}
+use Rattle.wire.specs.declared.Refusal as Wire
+use Rattle.writer.specs.declared.Writer as Code
+use Rattle.writer.specs.declared.measure.Measured.{Measured}
 use Rattle.writer.specs.declared.measure.Measured.the-variants as Measured
 use Rattle.writer.specs.declared.tries.Outcome.{Outcome}
 use Rattle.writer.specs.declared.tries.Outcome.the-variants as Outcome
@@ -118,15 +121,40 @@ module _ (w : Writer) (l : Lent) (rs : List Row) (s : sizesBad l ≡ false) (g :
   unfolding write refusal unless
   goes-through h = rw (s, g, h)
 
--- rows that were measured and not refused are ready to be written
-pub measured-ready : (first second output table rows notes heads : List ℕ) (kept written used : ℕ) → written ≤ length output → 2 * kept ≤ length table
-    → MeasureSays first second output table kept written (rowsIn first second rows) notes heads (Measured.Used used)
-    → Ready first second output table kept written (rowsIn first second rows) (take used notes) heads
-measured-ready first second output table rows notes heads kept written used o t m =
-    let room = fits (lentOf output table) _ (rowsIn first second rows) written (poolAt output kept table) o (rw (pool-count output kept table) t) (m .1) in
-    record { bytes-fit = room .0; pairs-fit = room .1; knows = m .2; settled = m .3 }
+-- ---- what measuring says, by its answer
+
+module _ (first second output table rows notes heads : List ℕ) (w : Code.Writer) (r : Measured)
+    (says : MeasureSays first second output table (w .names) (w .written) (rowsIn first second rows) notes heads r) where
+  abbrev fault : Refusal
+  fault = rowsRefusal (lentOf output table) (meetsBad output (w .names) table) (w .written) (poolAt output (w .names) table) (rowsIn first second rows)
+
+  pub refused-by : (x : Wire.Refusal) → r ≡ Measured.Refused x → fault ≡ some (x .number, x .detail)
+  refused-by x e = rw e at says
+
+  pub crowded-by : r ≡ Measured.Crowded → length notes < most-notes
+  crowded-by e = rw e at says
+
+  module _ (used : ℕ) (e : r ≡ Measured.Used used) where
+    used-says : MeasureSays first second output table (w .names) (w .written) (rowsIn first second rows) notes heads (Measured.Used used)
+    used-says = rw e at says
+
+    pub used-fit : used ≤ length notes
+    used-fit = used-says .0
+
+    pub unrefused : fault ≡ none
+    unrefused = used-says .1
+
+    -- rows that were measured and not refused are ready to be written
+    pub ready-for : w .written ≤ length output → 2 * w .names ≤ length table
+        → Ready first second output table (w .names) (w .written) (rowsIn first second rows) (take used notes) heads
+    ready-for o t =
+        let room = fits (lentOf output table) _ (rowsIn first second rows) (w .written) (poolAt output (w .names) table) o (rw (pool-count output (w .names) table) t) unrefused in
+        record { bytes-fit = room .0; pairs-fit = room .1; knows = used-says .2; settled = used-says .3 }
 
 -- ---- arrays of zeros, whose length nothing computes
+
+pub zeros : (n : ℕ) → n ≡ length {A = ℕ} (replicate n 0)
+zeros n = sym (length-replicate n 0)
 
 pub fresh : (n : ℕ) → Fresh (replicate n 0)
 fresh zero slot = refl
@@ -136,20 +164,32 @@ fresh (suc n) (suc slot) = fresh n slot
 pub slots-of : (n : ℕ) → 0 < n → n < 65536 → Slots (length {A = ℕ} (replicate n 0))
 slots-of n a b = rw length-replicate (record { some-slots = a; few-slots = b })
 
+-- slots whose number stays
+pub slots-kept : (n n′ : ℕ) → n′ ≡ n → Slots n → Slots n′
+slots-kept n n′ e s = rw e s
+
 -- ---- tries
 
-module _ (formed : Bool) (w : Writer) (l : Lent) (rs : List Row) (output table : List ℕ) where
+module _ (single : Bool) (w : Code.Writer) (first second rows output table output′ table′ : List ℕ) where
+  abbrev By : ℕ → Outcome → Type 0
+  By = TriedBy single w first second rows output table output′ table′
+
   -- room for how many notes counts only in that it is not for all
-  pub tried-with : (size size′ : ℕ) (r : Outcome) → size′ < most-notes → Tried formed w l rs output table size r → Tried formed w l rs output table size′ r
+  pub tried-with : (size size′ : ℕ) (r : Outcome) → size′ < most-notes → By size r → By size′ r
   tried-with size size′ (Outcome.Left x) h t = t
   tried-with size size′ Outcome.Crowded h t = (t .0, h)
 
-  -- with an array of so many zeros
-  pub tried-at : (n : ℕ) (r : Outcome) → Tried formed w l rs output table (length {A = ℕ} (replicate n 0)) r → Tried formed w l rs output table n r
-  tried-at n r t = rw (length-replicate {A = ℕ} n 0) at t
+  -- Room for as many as lie in an array. That they are so many is told by the array's own facts: `length (replicate n 0)` is not to be computed.
+  pub tried-at : (n size : ℕ) (r : Outcome) → size ≡ n → By size r → By n r
+  tried-at n size r e t = rw e at t
 
   -- with room for all notes
-  pub never-crowded : (r : Outcome) → r ≡ Outcome.Crowded → Tried formed w l rs output table most-notes r → ⊥
+  pub never-crowded : (r : Outcome) → r ≡ Outcome.Crowded → By most-notes r → ⊥
   never-crowded r e t =
-      let u : Tried formed w l rs output table most-notes Outcome.Crowded = rw e at t in
+      let u : By most-notes Outcome.Crowded = rw e at t in
       omega (arith, u .1)
+
+  -- rows that form are tried by what measuring says
+  pub tried-formed : (size : ℕ) (r : Outcome) → formsBy single first second rows ≡ true
+      → Tried true (stateOf w) (lentOf output table) (rowsIn first second rows) output′ table′ size r → By size r
+  tried-formed size r e t = rw e t

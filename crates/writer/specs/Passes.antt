@@ -13,10 +13,12 @@ use Rattle.grammar.specs.Grammar.{most}
 use Rattle.grammar.specs.Document.{Pool}
 use Rattle.writer_spec.specs.Encode.{find, nameBy, nameBytes, keep, valueBytes, tokenType, rowBytes, keepRow, rowsBytes, keepRows}
 use Rattle.writer_spec.specs.Faults.{stringFault}
-use Rattle.writer_spec.specs.Writer.{Writer, Lent, Refusal, sizesBad, stateBad, _before_, refuseIf, poolAt, meetsBad, rowRefusal, rowsRefusal, write}
-use Rattle.writer.specs.Answers.{lentOf, leftOf, knownOf}
+use Rattle.writer_spec.specs.Writer.{Writer, Lent, Refusal, sizesBad, stateBad, _before_, refuseIf, poolAt, meetsBad, rowRefusal, rowsRefusal, rowsIn, write}
+use Rattle.writer.specs.Answers.{lentOf, stateOf, leftOf, formsBy, knownOf}
 use Rattle.writer.specs.Notes.{Noted, Unnoted}
-use Rattle.writer.specs.declared.put.Known as Code
+use Rattle.writer.specs.declared.Writer as Code
+use Rattle.writer.specs.declared.Written.{Written}
+use Rattle.writer.specs.declared.put.Known as Name
 use Rattle.writer.specs.declared.measure.Tally.{Tally}
 use Rattle.writer.specs.declared.measure.NameSize.{NameSize}
 use Rattle.writer.specs.declared.measure.NameSize.the-variants as NameSize
@@ -159,6 +161,16 @@ abbrev pub Tried : Bool → Writer → Lent → List Row → List ℕ → List �
 Tried formed w l rs output table size (Outcome.Left r) = leftOf r output table ≡ write formed w l rs
 Tried formed w l rs output table size Outcome.Crowded = (lentOf output table ≡ l) × (size < most-notes)
 
+-- the same by a call's arguments: what its output and its table hold first, and what they hold then
+abbrev pub TriedBy : Bool → Code.Writer → List ℕ → List ℕ → List ℕ → List ℕ → List ℕ → List ℕ → List ℕ → ℕ → Outcome → Type 0
+TriedBy single writer first second rows output table output′ table′ size r =
+    Tried (formsBy single first second rows) (stateOf writer) (lentOf output table) (rowsIn first second rows) output′ table′ size r
+
+-- what is left by a call that is never crowded
+abbrev pub WrittenBy : Bool → Code.Writer → List ℕ → List ℕ → List ℕ → List ℕ → List ℕ → List ℕ → List ℕ → Written → Type 0
+WrittenBy single writer first second rows output table output′ table′ r =
+    leftOf r output′ table′ ≡ write (formsBy single first second rows) (stateOf writer) (lentOf output table) (rowsIn first second rows)
+
 -- ---- writing
 
 -- what must hold when the second pass begins: room for all of it, and notes that know the pool after it
@@ -169,7 +181,7 @@ pub record Ready (first second output table : List ℕ) (kept written : ℕ) (rs
   pub settled : AllSettled first second (keepRows (found first second output table kept) rs) notes rs
 
 -- the name's place in a pool, of which more names come after
-abbrev pub KnownSays : List ℕ → List ℕ → List ℕ → List ℕ → ℕ → Row → Code.Known → Type 0
+abbrev pub KnownSays : List ℕ → List ℕ → List ℕ → List ℕ → ℕ → Row → Name.Known → Type 0
 KnownSays first second notes heads names r k =
     (bad : List ℕ → Bool) (pool₀ pool more : Pool) → length pool ≡ names → Noted first second bad pool₀ (pool ++ more) notes heads
     → (hasName (r .kind) ≡ true → Settled first second (pool ++ more) notes (r .name)) → knownOf k ≡ cond (hasName (r .kind)) (find pool (r .name)) none

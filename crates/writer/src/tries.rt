@@ -10,11 +10,11 @@ ghost use mathlib.Core.Bool.{true, false};
 ghost use mathlib.Core.Path.{_≡_};
 ghost use lib.ListN.{length};
 ghost use Rattle.event.specs.Words.{listForms};
-ghost use Rattle.writer_spec.specs.Writer.{sizesBad, stateBad, rowsIn, write};
-ghost use Rattle.writer.specs.Answers.{lentOf, stateOf, leftOf, formsBy, faultOf};
+ghost use Rattle.writer_spec.specs.Writer.{sizesBad, stateBad, rowsIn};
+ghost use Rattle.writer.specs.Answers.{lentOf, stateOf, formsBy, faultOf};
 ghost use Rattle.pool_index.specs.Slots.{Fresh};
 ghost use Rattle.pool_index.specs.Index.{MaybeIndexed};
-ghost use Rattle.writer.specs.Passes.{Slots, callFault, Tried};
+ghost use Rattle.writer.specs.Passes.{Slots, callFault, Tried, TriedBy, WrittenBy};
 
 // What a try with so many notes came to. Crowded: it had no room for another, and changed nothing.
 pub enum Outcome {
@@ -122,7 +122,7 @@ fn write_checked<'a>(
     requires { ⌜ Fresh (now index) ⌝ }
     requires { ⌜ Slots (length (now heads)) × Fresh (now heads) ⌝ }
     requires { ⌜ Slots (length (now seen)) ⌝ }
-    ensures { λ r. ⌜ Tried (formsBy single (now (first .entry)) (now (second .entry)) (now (rows .entry))) (stateOf writer) (lentOf (now (output .entry)) (now (pool .entry))) (rowsIn (now (first .entry)) (now (second .entry)) (now (rows .entry))) (now (output .exit)) (now (pool .exit)) (length (now (notes .entry))) r ⌝ }
+    ensures { λ r. ⌜ TriedBy single writer (now (first .entry)) (now (second .entry)) (now (rows .entry)) (now (output .entry)) (now (pool .entry)) (now (output .exit)) (now (pool .exit)) (length (now (notes .entry))) r ⌝ }
 {
     match call_fault(single, writer, first, second, rows, output, pool) {
         Fault::Refused(r) => Outcome::Left(Written::Refused(r)),
@@ -159,7 +159,7 @@ fn write_few<'a>(
     output: &mut [u8],
     pool: &mut [u32],
 ) -> Outcome
-    ensures { λ r. ⌜ Tried (formsBy single (now (first .entry)) (now (second .entry)) (now (rows .entry))) (stateOf writer) (lentOf (now (output .entry)) (now (pool .entry))) (rowsIn (now (first .entry)) (now (second .entry)) (now (rows .entry))) (now (output .exit)) (now (pool .exit)) 320 r ⌝ }
+    ensures { λ r. ⌜ TriedBy single writer (now (first .entry)) (now (second .entry)) (now (rows .entry)) (now (output .entry)) (now (pool .entry)) (now (output .exit)) (now (pool .exit)) 320 r ⌝ }
 {
     let mut notes = [0u32; 320];
     let mut heads = [0u16; 64];
@@ -190,7 +190,7 @@ fn write_some<'a>(
     output: &mut [u8],
     pool: &mut [u32],
 ) -> Outcome
-    ensures { λ r. ⌜ Tried (formsBy single (now (first .entry)) (now (second .entry)) (now (rows .entry))) (stateOf writer) (lentOf (now (output .entry)) (now (pool .entry))) (rowsIn (now (first .entry)) (now (second .entry)) (now (rows .entry))) (now (output .exit)) (now (pool .exit)) 5_120 r ⌝ }
+    ensures { λ r. ⌜ TriedBy single writer (now (first .entry)) (now (second .entry)) (now (rows .entry)) (now (output .entry)) (now (pool .entry)) (now (output .exit)) (now (pool .exit)) 5_120 r ⌝ }
 {
     let mut notes = [0u32; 5_120];
     let mut heads = [0u16; 1_024];
@@ -221,7 +221,7 @@ fn write_many<'a>(
     output: &mut [u8],
     pool: &mut [u32],
 ) -> Outcome
-    ensures { λ r. ⌜ Tried (formsBy single (now (first .entry)) (now (second .entry)) (now (rows .entry))) (stateOf writer) (lentOf (now (output .entry)) (now (pool .entry))) (rowsIn (now (first .entry)) (now (second .entry)) (now (rows .entry))) (now (output .exit)) (now (pool .exit)) 102_400 r ⌝ }
+    ensures { λ r. ⌜ TriedBy single writer (now (first .entry)) (now (second .entry)) (now (rows .entry)) (now (output .entry)) (now (pool .entry)) (now (output .exit)) (now (pool .exit)) 102_400 r ⌝ }
 {
     let mut notes = [0u32; 102_400];
     let mut heads = [0u16; 8_192];
@@ -252,7 +252,7 @@ fn write_most<'a>(
     output: &mut [u8],
     pool: &mut [u32],
 ) -> Outcome
-    ensures { λ r. ⌜ Tried (formsBy single (now (first .entry)) (now (second .entry)) (now (rows .entry))) (stateOf writer) (lentOf (now (output .entry)) (now (pool .entry))) (rowsIn (now (first .entry)) (now (second .entry)) (now (rows .entry))) (now (output .exit)) (now (pool .exit)) 102_400 r ⌝ }
+    ensures { λ r. ⌜ TriedBy single writer (now (first .entry)) (now (second .entry)) (now (rows .entry)) (now (output .entry)) (now (pool .entry)) (now (output .exit)) (now (pool .exit)) 102_400 r ⌝ }
 {
     let mut notes = [0u32; 102_400];
     let mut heads = [0u16; 8_192];
@@ -283,7 +283,7 @@ fn write_nearly_all<'a>(
     output: &mut [u8],
     pool: &mut [u32],
 ) -> Outcome
-    ensures { λ r. ⌜ Tried (formsBy single (now (first .entry)) (now (second .entry)) (now (rows .entry))) (stateOf writer) (lentOf (now (output .entry)) (now (pool .entry))) (rowsIn (now (first .entry)) (now (second .entry)) (now (rows .entry))) (now (output .exit)) (now (pool .exit)) 163_840 r ⌝ }
+    ensures { λ r. ⌜ TriedBy single writer (now (first .entry)) (now (second .entry)) (now (rows .entry)) (now (output .entry)) (now (pool .entry)) (now (output .exit)) (now (pool .exit)) 163_840 r ⌝ }
 {
     let mut notes = [0u32; 163_840];
     let mut heads = [0u16; 16_384];
@@ -314,7 +314,7 @@ fn write_with_all<'a>(
     output: &mut [u8],
     pool: &mut [u32],
 ) -> Outcome
-    ensures { λ r. ⌜ Tried (formsBy single (now (first .entry)) (now (second .entry)) (now (rows .entry))) (stateOf writer) (lentOf (now (output .entry)) (now (pool .entry))) (rowsIn (now (first .entry)) (now (second .entry)) (now (rows .entry))) (now (output .exit)) (now (pool .exit)) 327_675 r ⌝ }
+    ensures { λ r. ⌜ TriedBy single writer (now (first .entry)) (now (second .entry)) (now (rows .entry)) (now (output .entry)) (now (pool .entry)) (now (output .exit)) (now (pool .exit)) 327_675 r ⌝ }
 {
     let mut notes = [0u32; 327_675];
     let mut heads = [0u16; 16_384];
@@ -345,7 +345,7 @@ fn write_all<'a>(
     output: &mut [u8],
     pool: &mut [u32],
 ) -> Written
-    ensures { λ r. ⌜ leftOf r (now (output .exit)) (now (pool .exit)) ≡ write (formsBy single (now (first .entry)) (now (second .entry)) (now (rows .entry))) (stateOf writer) (lentOf (now (output .entry)) (now (pool .entry))) (rowsIn (now (first .entry)) (now (second .entry)) (now (rows .entry))) ⌝ }
+    ensures { λ r. ⌜ WrittenBy single writer (now (first .entry)) (now (second .entry)) (now (rows .entry)) (now (output .entry)) (now (pool .entry)) (now (output .exit)) (now (pool .exit)) r ⌝ }
 {
     match write_with_all(single, writer, first, second, rows, output, pool) {
         Outcome::Left(w) => w,
@@ -363,7 +363,7 @@ pub(crate) fn write_short<'a>(
     output: &mut [u8],
     pool: &mut [u32],
 ) -> Outcome
-    ensures { λ r. ⌜ Tried (formsBy single (now (first .entry)) (now (second .entry)) (now (rows .entry))) (stateOf writer) (lentOf (now (output .entry)) (now (pool .entry))) (rowsIn (now (first .entry)) (now (second .entry)) (now (rows .entry))) (now (output .exit)) (now (pool .exit)) 5_120 r ⌝ }
+    ensures { λ r. ⌜ TriedBy single writer (now (first .entry)) (now (second .entry)) (now (rows .entry)) (now (output .entry)) (now (pool .entry)) (now (output .exit)) (now (pool .exit)) 5_120 r ⌝ }
 {
     if rows.len() <= 512 {
         return write_few(single, writer, first, second, rows, output, pool);
@@ -389,7 +389,7 @@ pub(crate) fn write_long<'a>(
     output: &mut [u8],
     pool: &mut [u32],
 ) -> Outcome
-    ensures { λ r. ⌜ Tried (formsBy single (now (first .entry)) (now (second .entry)) (now (rows .entry))) (stateOf writer) (lentOf (now (output .entry)) (now (pool .entry))) (rowsIn (now (first .entry)) (now (second .entry)) (now (rows .entry))) (now (output .exit)) (now (pool .exit)) 102_400 r ⌝ }
+    ensures { λ r. ⌜ TriedBy single writer (now (first .entry)) (now (second .entry)) (now (rows .entry)) (now (output .entry)) (now (pool .entry)) (now (output .exit)) (now (pool .exit)) 102_400 r ⌝ }
 {
     if writer.names < 256 {
         return write_most(single, writer, first, second, rows, output, pool);
@@ -407,7 +407,7 @@ pub(crate) fn write_longest<'a>(
     output: &mut [u8],
     pool: &mut [u32],
 ) -> Written
-    ensures { λ r. ⌜ leftOf r (now (output .exit)) (now (pool .exit)) ≡ write (formsBy single (now (first .entry)) (now (second .entry)) (now (rows .entry))) (stateOf writer) (lentOf (now (output .entry)) (now (pool .entry))) (rowsIn (now (first .entry)) (now (second .entry)) (now (rows .entry))) ⌝ }
+    ensures { λ r. ⌜ WrittenBy single writer (now (first .entry)) (now (second .entry)) (now (rows .entry)) (now (output .entry)) (now (pool .entry)) (now (output .exit)) (now (pool .exit)) r ⌝ }
 {
     if 262_144 < rows.len() {
         return write_all(single, writer, first, second, rows, output, pool);

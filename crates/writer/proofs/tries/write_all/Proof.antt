@@ -1,5 +1,3 @@
-use Rattle.writer_spec.specs.Writer.{rowsIn}
-use Rattle.writer.specs.Answers.{lentOf, stateOf, formsBy}
 use Rattle.writer.proofs.Calls.{never-crowded}
 use borrow.Author.Needs.{needs}
 use Rattle.writer.proofs.tries.write_all.Statement.{statement}
@@ -35,7 +33,7 @@ same-length-4 c = search needs
 returns-2 : tie.Need-returns-2
 returns-2 c = let a = c .before .before .before .before .before .before .before .before .before .before .before .before .before .before .before .args in
     let said = c .before .before .before .before .before .before .before .write-with-all in
-    absurd (never-crowded (formsBy (a .single) (a .first .now) (a .second .now) (a .rows .now)) (stateOf (a .writer)) (lentOf (a .output .now) (a .pool .now)) (rowsIn (a .first .now) (a .second .now) (a .rows .now)) (said .last .1 .1 .1 .1 .1 .0) (said .last .1 .1 .1 .1 .1 .1 .0) (said .result) (c .before .enum-told .given .1) (said .ensures))
+    absurd (never-crowded (a .single) (a .writer) (a .first .now) (a .second .now) (a .rows .now) (a .output .now) (a .pool .now) (said .last .1 .1 .1 .1 .1 .0) (said .last .1 .1 .1 .1 .1 .1 .0) (said .result) (c .before .enum-told .given .1) (said .ensures))
 
 pub write-all-spec : {M : Type 1} → statement M
 write-all-spec =

@@ -1,5 +1,3 @@
-use Rattle.writer_spec.specs.Writer.{rowsIn}
-use Rattle.writer.specs.Answers.{lentOf, stateOf, formsBy}
 use borrow.Author.Needs.{needs}
 use native.Mathlib.Omega.{arith}
 use mathlib.Core.Path.{refl}
@@ -18,7 +16,8 @@ same-length-2 c = search needs
 
 returns : tie.Need-returns
 returns c = let a = c .before .before .before .before .before .before .before .before .before .before .before .before .before .args in
-    tried-with (formsBy (a .single) (a .first .now) (a .second .now) (a .rows .now)) (stateOf (a .writer)) (lentOf (a .output .now) (a .pool .now)) (rowsIn (a .first .now) (a .second .now) (a .rows .now)) (c .before .before .before .before .write-few .last .1 .1 .1 .1 .1 .0) (c .before .before .before .before .write-few .last .1 .1 .1 .1 .1 .1 .0) 320 5120 (c .before .before .before .before .write-few .result) (omega arith) (c .before .before .before .before .write-few .ensures)
+    let said = c .before .before .before .before .write-few in
+    tried-with (a .single) (a .writer) (a .first .now) (a .second .now) (a .rows .now) (a .output .now) (a .pool .now) (said .last .1 .1 .1 .1 .1 .0) (said .last .1 .1 .1 .1 .1 .1 .0) 320 5120 (said .result) (omega arith) (said .ensures)
 
 write-some-requires : tie.Need-write-some-requires
 write-some-requires c κs = search needs
