@@ -3,7 +3,7 @@ use mathlib.Core.Bool.{Bool, true, false, cond, false≢true}
 use mathlib.Core.Option.{Option, none, some}
 use mathlib.Core.List.{List, [], _∷_, _++_}
 use mathlib.Core.Path.{_≡_, refl, sym, ap, _∙_}
-use Prim.Native.Nat.{ℕ, _+_, _/_, _≤_, _<_}
+use Prim.Native.Nat.{ℕ, _+_, _-_, _/_, _≤_, _<_}
 use native.Mathlib.Omega.{arith}
 use lib.ListN.{length, getD, set, take, length-append}
 use lib.Seq.{sets, length-sets, length-take-le}
@@ -20,13 +20,16 @@ use Rattle.writer_spec.specs.Encode.{find, nameBy, nameBytes, valueBytes, rowBy
 use Rattle.writer_spec.specs.Faults.{stringFault, valueFault}
 use Rattle.writer_spec.specs.Writer.{Refusal, _before_, refuseIf, rowRefusal}
 use Rattle.byte_copy.specs.Sets.{take-sets}
-use Rattle.writer.specs.Answers.{takes, stops, measured, placed, barred, placedBy}
+use Rattle.writer.specs.Answers.{takes, stops, measured, placed, barred, placedBy, nameFoundOf}
 use Rattle.pool_index.specs.Slots.{slotOf}
 use Rattle.writer.specs.Notes.{noteName, noteIndex, count, Unnoted, LookSays}
 use Rattle.writer.specs.declared.notes.Look.the-variants as Look
+use Rattle.wire.specs.declared.Refusal as Wire
+use Rattle.writer.specs.declared.measure.NameFound.{NameFound}
+use Rattle.writer.specs.declared.measure.NameFound.the-variants as NameFound
 use Rattle.writer.specs.declared.measure.NameSize.{NameSize}
 use Rattle.writer.specs.declared.measure.NameSize.the-variants as NameSize
-use Rattle.writer.specs.Passes.{nameRefusal, capped, most-notes, bad, found, Known, NameTakes, NameSays, RowNamed, RowNameSays, RowTakes}
+use Rattle.writer.specs.Passes.{nameRefusal, capped, most-notes, bad, found, Known, Kept, NameTakes, NameSays, NameMeasured, RowNamed, RowNameSays, RowTakes}
 use Rattle.writer.proofs.Pools.{keep-there, keep-new, keep-full, find-below}
 use Rattle.writer.proofs.Links.{count-more, name-new}
 use Rattle.writer.proofs.Noting.{few, still, noted-kept, noted-new}
@@ -281,7 +284,7 @@ used-few first second output table kept pool notes heads used h b t =
     let f = few first second (bad first second output table kept) (found first second output table kept) pool (take used notes) heads t in
     omega (arith, f, length-take-le used notes h, t .linked .whole)
 
--- ---- the arms of the code, by the name that it has at hand
+-- ---- a name with no note, by what its search says
 
 module _ (first second output table : List ℕ) (kept : ℕ) (w n notes heads : List ℕ) (used slot : ℕ)
     (e : n ≡ span first second (getD w 1 0) (getD w 2 0) (getD w 3 0)) (in-use : used ≤ length notes) (its : slot ≡ slotOf (length heads) n)
@@ -293,29 +296,29 @@ module _ (first second output table : List ℕ) (kept : ℕ) (w n notes heads : 
   here : (o : Option ℕ) → Answer o → (nameRefusal (bad first second output table kept) n ≡ none) × (find pool n ≡ o)
   here o q = (let x = placed-is _ o _ q in (x .0, t .complete n u ∙ x .1))
 
-  pub index-small : (i : ℕ) → Answer (some i) → i < internedNew
+  index-small : (i : ℕ) → Answer (some i) → i < internedNew
   unfolding most
   index-small i q = omega (arith, find-below pool n i (here (some i) q .1))
 
-  pub room-kept : (i : ℕ) → Answer (some i) → used + 5 ≤ most-notes
+  room-kept : (i : ℕ) → Answer (some i) → used + 5 ≤ most-notes
   room-kept i q =
       kept-room first second output table kept pool w notes heads used slot t (rw e at u) (rw e at its) h (rw e at (here (some i) q .0)) in-use small i (rw e at (here (some i) q .1))
 
-  pub room-new : Answer none → names < internedNew → used + 5 ≤ most-notes
+  room-new : Answer none → names < internedNew → used + 5 ≤ most-notes
   unfolding most
   room-new q m =
       new-room first second output table kept pool w notes heads used slot t (rw e at u) (rw e at its) h (rw e at (here none q .0)) in-use small (rw e at (here none q .1)) (omega arith)
 
   module _ (index : ℕ) (notes′ heads′ : List ℕ) (stored : notes′ ≡ sets notes used (getD w 1 0 ∷ getD w 2 0 ∷ getD w 3 0 ∷ index ∷ getD heads slot 0 ∷ []))
       (headed : heads′ ≡ set heads slot (used / 5 + 1)) (room : used + 5 ≤ length notes) where
-    pub says-kept : Answer (some index)
+    says-kept : Answer (some index)
         → (used + 5 ≤ length notes′) × NameTakes first second output table kept pool n 2 names (take used notes) (take (used + 5) notes′) heads′
     says-kept q =
         rw (e, ← counts)
         (kept-says first second output table kept pool w notes heads used slot t (rw e at u) (rw e at its) h (rw e at (here (some index) q .0)) in-use small index notes′ heads′
         room stored headed (rw e at (here (some index) q .1)))
 
-    pub says-new : Answer none → names < internedNew → index ≡ names
+    says-new : Answer none → names < internedNew → index ≡ names
         → (used + 5 ≤ length notes′) × NameTakes first second output table kept pool n (4 + length n) (names + 1) (take used notes) (take (used + 5) notes′) heads′
     unfolding most
     says-new q m i =
@@ -323,7 +326,7 @@ module _ (first second output table : List ℕ) (kept : ℕ) (w n notes heads : 
         (new-says first second output table kept pool w notes heads used slot t (rw e at u) (rw e at its) h (rw e at (here none q .0)) in-use small index notes′ heads′
         room stored headed (rw e at (here none q .1)) (omega arith) (i ∙ sym counts))
 
-  pub says-full : Answer none → internedNew ≤ names
+  says-full : Answer none → internedNew ≤ names
       → (used ≤ length notes) × NameTakes first second output table kept pool n (4 + length n) names (take used notes) (take used notes) heads
   unfolding most
   says-full q m = (
@@ -331,10 +334,70 @@ module _ (first second output table : List ℕ) (kept : ℕ) (w n notes heads : 
     rw (← counts) (takes-full first second output table kept pool n (take used notes) heads t (here none q .0) (here none q .1) (omega arith)),
   )
 
-pub says-refused : (first second output table n : List ℕ) (kept a b : ℕ)
-    → barred a b ≡ placedBy (nameRefusal (bad first second output table kept) n) (find (found first second output table kept) n)
-    → nameRefusal (bad first second output table kept) n ≡ some (a, b)
-says-refused first second output table n kept a b q = barred-is _ a b _ q
+-- The arms of the code: what is known before the search, and its answer.
+module _ (first second output table : List ℕ) (kept : ℕ) (w n notes heads : List ℕ) (used slot names : ℕ)
+    (e : n ≡ span first second (getD w 1 0) (getD w 2 0) (getD w 3 0)) (in-use : used ≤ length notes)
+    (its : (slot ≡ slotOf (length heads) n) × (slot < length heads)) (k : Kept first second output table kept names (take used notes) heads)
+    (u : Unnoted first second (take used notes) n) (r : NameFound)
+    (said : nameFoundOf r ≡ placedBy (nameRefusal (bad first second output table kept) n) (find (found first second output table kept) n)) where
+  abbrev After : List ℕ → List ℕ → NameSize → Type 0
+  After notes′ heads′ s = NameMeasured first second output table kept names n used notes heads notes′ heads′ s
+
+  small : (pool : Pool) → length pool ≡ names → length pool ≤ most
+  small pool c = omega (arith, k .1, k .2)
+
+  abbrev Asks : Type 0
+  Asks = (8 ≤ length w) × (((used + 5 ≤ length notes) × (used + 5 ≤ most-notes)) × (slot < length heads))
+
+  pub used-small : used ≤ most-notes
+  used-small = used-few first second output table kept (k .0) notes heads used in-use (k .2) (k .3)
+
+  module _ (i : ℕ) (is : r ≡ NameFound.At i) where
+    there : Answer first second output table kept w n notes heads used slot e in-use (its .0) (its .1) u (k .0) names (k .1) (k .2) (k .3) (some i)
+    there = sym (ap nameFoundOf is) ∙ said
+
+    pub there-small : i < internedNew
+    there-small = index-small first second output table kept w n notes heads used slot e in-use (its .0) (its .1) u (k .0) names (k .1) (k .2) (k .3) i there
+
+    there-room : used + 5 ≤ most-notes
+    there-room = room-kept first second output table kept w n notes heads used slot e in-use (its .0) (its .1) u (k .0) names (k .1) (k .2) (k .3) i there
+
+    pub there-crowded : length notes - used < 5 → After notes heads NameSize.Crowded
+    there-crowded h pool c t = omega (arith, h, there-room)
+
+    pub there-asks : 8 ≤ length w → 5 ≤ length notes - used → Asks
+    there-asks b h = (b, ((omega arith, there-room), its .1))
+
+    pub there-takes : (notes′ heads′ : List ℕ) → notes′ ≡ sets notes used (getD w 1 0 ∷ getD w 2 0 ∷ getD w 3 0 ∷ i ∷ getD heads slot 0 ∷ [])
+        → heads′ ≡ set heads slot (used / 5 + 1) → 5 ≤ length notes - used → After notes′ heads′ (NameSize.Takes 2 names (used + 5))
+    there-takes notes′ heads′ stored headed h pool c t =
+        says-kept first second output table kept w n notes heads used slot e in-use (its .0) (its .1) u pool names c (small pool c) t i notes′ heads′ stored headed (omega arith) there
+
+  module _ (is : r ≡ NameFound.Nowhere) where
+    nowhere : Answer first second output table kept w n notes heads used slot e in-use (its .0) (its .1) u (k .0) names (k .1) (k .2) (k .3) none
+    nowhere = sym (ap nameFoundOf is) ∙ said
+
+    module _ (m : names < internedNew) where
+      joins-room : used + 5 ≤ most-notes
+      joins-room = room-new first second output table kept w n notes heads used slot e in-use (its .0) (its .1) u (k .0) names (k .1) (k .2) (k .3) nowhere m
+
+      pub joins-crowded : length notes - used < 5 → After notes heads NameSize.Crowded
+      joins-crowded h pool c t = omega (arith, h, joins-room)
+
+      pub joins-asks : 8 ≤ length w → 5 ≤ length notes - used → Asks
+      joins-asks b h = (b, ((omega arith, joins-room), its .1))
+
+      pub joins-takes : (notes′ heads′ : List ℕ) → notes′ ≡ sets notes used (getD w 1 0 ∷ getD w 2 0 ∷ getD w 3 0 ∷ names ∷ getD heads slot 0 ∷ [])
+          → heads′ ≡ set heads slot (used / 5 + 1) → 5 ≤ length notes - used → After notes′ heads′ (NameSize.Takes (4 + length n) (names + 1) (used + 5))
+      joins-takes notes′ heads′ stored headed h pool c t =
+          says-new first second output table kept w n notes heads used slot e in-use (its .0) (its .1) u pool names c (small pool c) t names notes′ heads′ stored headed
+          (omega arith) nowhere m refl
+
+    pub full-takes : internedNew ≤ names → After notes heads (NameSize.Takes (4 + length n) names used)
+    full-takes m pool c t = says-full first second output table kept w n notes heads used slot e in-use (its .0) (its .1) u pool names c (small pool c) t nowhere m
+
+  pub stays-refused : (x : Wire.Refusal) → r ≡ NameFound.Refused x → After notes heads (NameSize.Refused x)
+  stays-refused x is pool c t = barred-is _ (x .number) (x .detail) _ (sym (ap nameFoundOf is) ∙ said)
 
 -- ---- a row's name
 
