@@ -349,15 +349,16 @@ module _ (first second output table : List ℕ) (kept : ℕ) (w n notes heads : 
   abbrev Asks : Type 0
   Asks = (8 ≤ length w) × (((used + 5 ≤ length notes) × (used + 5 ≤ most-notes)) × (slot < length heads))
 
-  pub used-small : used ≤ most-notes
-  used-small = used-few first second output table kept (k .0) notes heads used in-use (k .2) (k .3)
+  -- a note more ends below the end of a word
+  pub used-small : used + 5 < 18446744073709551616
+  used-small = omega (arith, used-few first second output table kept (k .0) notes heads used in-use (k .2) (k .3))
 
   module _ (i : ℕ) (is : r ≡ NameFound.At i) where
     there : Answer first second output table kept w n notes heads used slot e in-use (its .0) (its .1) u (k .0) names (k .1) (k .2) (k .3) (some i)
     there = sym (ap nameFoundOf is) ∙ said
 
-    pub there-small : i < internedNew
-    there-small = index-small first second output table kept w n notes heads used slot e in-use (its .0) (its .1) u (k .0) names (k .1) (k .2) (k .3) i there
+    pub there-small : i < 4294967296
+    there-small = omega (arith, index-small first second output table kept w n notes heads used slot e in-use (its .0) (its .1) u (k .0) names (k .1) (k .2) (k .3) i there)
 
     there-room : used + 5 ≤ most-notes
     there-room = room-kept first second output table kept w n notes heads used slot e in-use (its .0) (its .1) u (k .0) names (k .1) (k .2) (k .3) i there

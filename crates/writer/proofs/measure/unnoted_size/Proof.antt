@@ -32,7 +32,7 @@ cast-note : tie.Need-cast-note
 cast-note c = let a = c .before .before .before .before .before .before .before .before .before .before .before .before .before .before .args in
     let p = c .before .before .before .before .before .before .before .before .before .before .before .before .before .before .pre .1 in
     let said = c .before .before .before .before .find-name in
-    omega (arith, there-small (a .first .now) (a .second .now) (a .output .now) (a .pool .now) (a .kept) (a .w .now) (a .name .now) (a .notes .now) (a .heads .now) (a .used) (a .slot) (a .names) (p .1 .0) (p .1 .1 .1 .0) (p .1 .1 .1 .1 .0) (p .1 .1 .1 .1 .1 .0) (p .1 .1 .1 .1 .1 .1) (said .result) (said .ensures) (c .before .before .i .given .0 .0) (c .before .before .i .given .1))
+    record { fits = there-small (a .first .now) (a .second .now) (a .output .now) (a .pool .now) (a .kept) (a .w .now) (a .name .now) (a .notes .now) (a .heads .now) (a .used) (a .slot) (a .names) (p .1 .0) (p .1 .1 .1 .0) (p .1 .1 .1 .1 .0) (p .1 .1 .1 .1 .1 .0) (p .1 .1 .1 .1 .1 .1) (said .result) (said .ensures) (c .before .before .i .given .0 .0) (c .before .before .i .given .1) }
 
 note-requires : tie.Need-note-requires
 note-requires c κs = let a = c .before .before .before .before .before .before .before .before .before .before .before .before .before .before .before .before .args in
@@ -44,7 +44,7 @@ add-t19 : tie.Need-add-t19
 add-t19 c = let a = c .before .before .before .before .before .before .before .before .before .before .before .before .before .before .before .before .before .before .before .before .before .args in
     let p = c .before .before .before .before .before .before .before .before .before .before .before .before .before .before .before .before .before .before .before .before .before .pre .1 in
     let said = c .before .before .before .before .before .before .before .before .before .before .before .find-name in
-    omega (arith, used-small (a .first .now) (a .second .now) (a .output .now) (a .pool .now) (a .kept) (a .w .now) (a .name .now) (a .notes .now) (a .heads .now) (a .used) (a .slot) (a .names) (p .1 .0) (p .1 .1 .1 .0) (p .1 .1 .1 .1 .0) (p .1 .1 .1 .1 .1 .0) (p .1 .1 .1 .1 .1 .1) (said .result) (said .ensures))
+    record { fits = used-small (a .first .now) (a .second .now) (a .output .now) (a .pool .now) (a .kept) (a .w .now) (a .name .now) (a .notes .now) (a .heads .now) (a .used) (a .slot) (a .names) (p .1 .0) (p .1 .1 .1 .0) (p .1 .1 .1 .1 .0) (p .1 .1 .1 .1 .1 .0) (p .1 .1 .1 .1 .1 .1) (said .result) (said .ensures) }
 
 enum-told : tie.Need-enum-told
 enum-told c = search needs
@@ -80,7 +80,7 @@ add-t31 : tie.Need-add-t31
 add-t31 c = let a = c .before .before .before .before .before .before .before .before .before .before .before .before .before .before .before .before .before .before .before .before .before .args in
     let p = c .before .before .before .before .before .before .before .before .before .before .before .before .before .before .before .before .before .before .before .before .before .pre .1 in
     let said = c .before .before .before .before .before .before .before .before .before .before .before .find-name in
-    omega (arith, used-small (a .first .now) (a .second .now) (a .output .now) (a .pool .now) (a .kept) (a .w .now) (a .name .now) (a .notes .now) (a .heads .now) (a .used) (a .slot) (a .names) (p .1 .0) (p .1 .1 .1 .0) (p .1 .1 .1 .1 .0) (p .1 .1 .1 .1 .1 .0) (p .1 .1 .1 .1 .1 .1) (said .result) (said .ensures))
+    record { fits = used-small (a .first .now) (a .second .now) (a .output .now) (a .pool .now) (a .kept) (a .w .now) (a .name .now) (a .notes .now) (a .heads .now) (a .used) (a .slot) (a .names) (p .1 .0) (p .1 .1 .1 .0) (p .1 .1 .1 .1 .0) (p .1 .1 .1 .1 .1 .0) (p .1 .1 .1 .1 .1 .1) (said .result) (said .ensures) }
 
 same-length : tie.Need-same-length
 same-length c = search needs
