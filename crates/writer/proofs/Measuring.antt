@@ -3,10 +3,10 @@ use mathlib.Core.Bool.{Bool, true, false}
 use mathlib.Core.Option.{Option, none, some}
 use mathlib.Core.List.{List, [], _∷_, _++_, append-nil, append-assoc}
 use mathlib.Core.Path.{_≡_, sym, ap, _∙_}
-use Prim.Native.Nat.{ℕ, _+_, _%_, _≤_, _<_}
+use Prim.Native.Nat.{ℕ, _+_, _-_, _%_, _≤_, _<_}
 use native.Mathlib.Nat.{sub-zero}
 use native.Mathlib.Omega.{arith}
-use lib.ListN.{length, take, drop}
+use lib.ListN.{length, take, drop, length-drop}
 use Rattle.wire.specs.Limits.{maxStore}
 use Rattle.wire.specs.Token.{internedNew}
 use Rattle.event.specs.Row.{Row, hasName, rowAt}
@@ -17,17 +17,21 @@ use Rattle.writer_spec.specs.Laws.{pool-count}
 use Rattle.writer_spec.specs.Writer.{Lent, rowRefusal, roomRefusal, ends, rowsRefusal, rowsIn}
 use Rattle.writer_spec.specs.Wrote.{keepRows-append}
 use Rattle.writer_spec.specs.Held.{rows-bounded}
-use Rattle.writer.specs.Answers.{lentOf}
+use Rattle.writer.specs.Answers.{lentOf, faultOf}
 use Rattle.pool_index.specs.Slots.{Fresh}
 use Rattle.writer.specs.Notes.{Unnoted}
-use Rattle.writer.specs.Passes.{roomOf, endsAt, Settled, AllSettled, bad, found, Known, Kept, RowTakes, MeasureSays}
+use Rattle.writer.specs.Passes.{roomOf, endsAt, most-notes, Settled, AllSettled, bad, found, Known, Kept, RowTakes, RowSays, RowMeasured, MeasureSays}
+use Rattle.wire.specs.declared.Refusal as Wire
+use Rattle.writer.specs.declared.sizes.Fault.{Fault}
+use Rattle.writer.specs.declared.sizes.Fault.the-variants as Fault
+use Rattle.writer.specs.declared.measure.RowSize.{RowSize}
+use Rattle.writer.specs.declared.measure.RowSize.the-variants as RowSize
 use Rattle.writer.specs.declared.measure.Measured.the-variants as Measured
 use Rattle.writer.specs.declared.measure.Tally.{Tally}
 use Rattle.writer.proofs.Pools.{row-full}
 use Rattle.writer.proofs.Noting.{noted-none}
-use Rattle.writer.proofs.Turns.{rest, rest-more, rest-ends, rest-end, capped-small, refusal-capped, room-is, stops-row, stops-room, goes-in, goes-past}
+use Rattle.writer.proofs.Turns.{to-end, rest, rest-more, rest-ends, rest-end, capped-small, refusal-capped, room-is, stops-row, stops-room, goes-in, goes-past}
 
--- so many pairs are so many names
 -- ---- names that are settled stay so
 
 module _ (first second : List ℕ) (pool : Pool) (r : Row) (notes notes′ : List ℕ)
@@ -96,7 +100,7 @@ module _ (first second output table rows : List ℕ) (kept written : ℕ) where
     pool = keepRows pool₀ (m .done)
 
     -- what a row's measuring asks for
-    pub kept-here : kept ≤ internedNew → Kept first second output table kept (t .names) (take (t .used) notes) heads
+    kept-here : kept ≤ internedNew → Kept first second output table kept (t .names) (take (t .used) notes) heads
     unfolding most
     kept-here h = (pool, m .names-are, rows-bounded (m .done) pool₀ (omega (arith, pool-count output kept table)), m .knows)
 
@@ -113,7 +117,7 @@ module _ (first second output table rows : List ℕ) (kept written : ℕ) where
       remains-here : rowsRefusal l names-bad (t .at) pool (this ∷ after) ≡ Whole
       remains-here = ap (rowsRefusal l names-bad (t .at) pool) (sym this-first) ∙ m .remains
 
-      pub row-stops : (a b : ℕ) → rowRefusal names-bad this ≡ some (a, b) → Whole ≡ some (a, b)
+      row-stops : (a b : ℕ) → rowRefusal names-bad this ≡ some (a, b) → Whole ≡ some (a, b)
       row-stops a b e = sym remains-here ∙ stops-row l names-bad (t .at) pool this after (a, b) e
 
       -- the row takes so much
@@ -135,7 +139,7 @@ module _ (first second output table rows : List ℕ) (kept written : ℕ) where
         room-here : roomOf (length output) (length table) (u .at) (u .names) ≡ roomRefusal l place pool′
         room-here = ap (λ (x : ℕ). roomOf (length output) (length table) x (u .names)) (k .at-is) ∙ room-is l names-bad place (u .names) pool′ (k .names-are)
 
-        pub room-stops : (a b : ℕ) → endsAt rows (row + 8) ≡ true → roomOf (length output) (length table) (u .at) (u .names) ≡ some (a, b) → Whole ≡ some (a, b)
+        room-stops : (a b : ℕ) → endsAt rows (row + 8) ≡ true → roomOf (length output) (length table) (u .at) (u .names) ≡ some (a, b) → Whole ≡ some (a, b)
         room-stops a b e f = sym remains-here ∙ stops-room l names-bad (t .at) pool this after (k .passes) (a, b) (ends-here ∙ e) (sym room-here ∙ f)
 
         next : length output ≤ maxStore → rowsRefusal l names-bad (t .at) pool (this ∷ after) ≡ rowsRefusal l names-bad place pool′ after → Measuring (row + 8) u notes′ heads′
@@ -158,12 +162,52 @@ module _ (first second output table rows : List ℕ) (kept written : ℕ) where
               at-small = rw (k .at-is) (omega (arith, capped-small (length output) place));
             }
 
-        pub goes-on : length output ≤ maxStore → endsAt rows (row + 8) ≡ false → Measuring (row + 8) u notes′ heads′
+        goes-on : length output ≤ maxStore → endsAt rows (row + 8) ≡ false → Measuring (row + 8) u notes′ heads′
         goes-on small e = next small (goes-in l names-bad (t .at) pool this after (k .passes) (ends-here ∙ e))
 
-        pub goes-on-past : length output ≤ maxStore → endsAt rows (row + 8) ≡ true → roomOf (length output) (length table) (u .at) (u .names) ≡ none
+        goes-on-past : length output ≤ maxStore → endsAt rows (row + 8) ≡ true → roomOf (length output) (length table) (u .at) (u .names) ≡ none
             → Measuring (row + 8) u notes′ heads′
         goes-on-past small e f = next small (goes-past l names-bad (t .at) pool this after (k .passes) (ends-here ∙ e) (sym room-here ∙ f))
+
+      -- the loop's own bounds
+      pub turn-ends : row + 8 ≤ length rows
+      turn-ends = omega (arith, m .aligned)
+
+      pub turn-falls : length rows - (row + 8) < length rows - row
+      turn-falls = omega arith
+
+      -- the words that a turn is given
+      abbrev words : List ℕ
+      words = take (length rows - row) (drop row rows)
+
+      pub row-asks : kept ≤ internedNew → (8 ≤ length words) × Kept first second output table kept (t .names) (take (t .used) notes) heads
+      row-asks b = rw (to-end rows row) (omega (arith, length-drop row rows, m .aligned), kept-here b)
+
+      -- and what the row's measuring says
+      module _ (r : RowSize) (notes′ heads′ : List ℕ) (says : RowMeasured first second output table kept (rowAt first second words) t notes heads notes′ heads′ r) where
+        said : RowSays first second output table kept pool this t notes notes′ heads′ r
+        said = (let at-row : RowMeasured first second output table kept this t notes heads notes′ heads′ r = rw (to-end rows row) at says in at-row pool (m .names-are) (m .knows))
+
+        pub row-refused : (x : Wire.Refusal) → r ≡ RowSize.Refused x → Whole ≡ some (x .number, x .detail)
+        row-refused x e = row-stops (x .number) (x .detail) (rw e at said)
+
+        pub row-crowded : r ≡ RowSize.Crowded → length notes′ < most-notes
+        row-crowded e = rw e at said
+
+        -- the row takes so much, and an event ends after it or not
+        module _ (u : Tally) (e : r ≡ RowSize.Takes u) (over : Bool) (is : over ≡ endsAt rows (row + 8)) where
+          taken : RowSays first second output table kept pool this t notes notes′ heads′ (RowSize.Takes u)
+          taken = rw e at said
+
+          pub row-inside : length output ≤ maxStore → over ≡ false → Measuring (row + 8) u notes′ heads′
+          row-inside small b = goes-on u notes′ heads′ (taken .0) (taken .1) small (sym is ∙ b)
+
+          module _ (b : over ≡ true) (f : Fault) (room : faultOf f ≡ roomOf (length output) (length table) (u .at) (u .names)) where
+            pub room-refused : (x : Wire.Refusal) → f ≡ Fault.Refused x → Whole ≡ some (x .number, x .detail)
+            room-refused x d = room-stops u notes′ heads′ (taken .0) (taken .1) (x .number) (x .detail) (sym is ∙ b) (sym room ∙ ap faultOf d)
+
+            pub row-last : length output ≤ maxStore → f ≡ Fault.Nothing → Measuring (row + 8) u notes′ heads′
+            row-last small d = goes-on-past u notes′ heads′ (taken .0) (taken .1) small (sym is ∙ b) (sym room ∙ ap faultOf d)
 
     -- all rows are measured
     pub ended : length rows ≤ row → MeasureSays first second output table kept written all notes heads (Measured.Used (t .used))

@@ -1,13 +1,12 @@
 use Rattle.writer.proofs.measure.measure.Statement.{statement}
 use Rattle.writer.proofs.measure.measure.Tie as tie
 use native.Mathlib.Omega.{arith}
-use mathlib.Core.Path.{_≡_, refl, sym, ap, _∙_}
+use mathlib.Core.Path.{_≡_, refl, _∙_}
 use borrow.Author.Needs.{needs}
 use Prim.Native.Nat.{_-_}
-use lib.ListN.{length, length-drop}
-use Rattle.writer.specs.Answers.{faultOf}
-use Rattle.writer.proofs.Turns.{to-end}
-use Rattle.writer.proofs.Measuring.{Measuring, begins, kept-here, row-stops, room-stops, goes-on, goes-on-past, ended}
+use lib.ListN.{length}
+use Rattle.writer.proofs.Calls.{slots-kept}
+use Rattle.writer.proofs.Measuring.{Measuring, begins, turn-ends, turn-falls, row-asks, row-refused, row-crowded, row-inside, room-refused, row-last, ended}
 
 abbrev Inv-loop : tie.InvT-loop
 Inv-loop first second rows output pool notes₀ heads₀ seen₀ index kept tally₀ row₀ notes heads seen tally row = Measuring first second output pool rows kept (tally₀ .at) row tally notes heads × (length notes ≡ length notes₀) × (length heads ≡ length heads₀) × (length seen ≡ length seen₀)
@@ -36,9 +35,9 @@ measure-row-requires : tie.Need-measure-row-requires Inv-loop μ-loop
 measure-row-requires c κs = let a = c .before .before .before .before .before .before .before .before .before .before .before .before .before .before .before .args in
     let p = c .before .before .before .before .before .before .before .before .before .before .before .before .before .before .before .pre .1 in
     let l = c .before .before .before .before .before .loop in
+    let asked = row-asks (a .first .now) (a .second .now) (a .output .now) (a .pool .now) (a .rows .now) (a .writer .names) (a .writer .written) (l .row) (l .tally) (l .notes) (l .heads) (l .inv .0) (c .before .before .before .before .loop-test .taken) (p .0) (p .1 .1 .0 .1) in
     let m = l .inv .0 in
-    rw (to-end (a .rows .now) (l .row))
-    (c .before .before .before .before .before .before .before .before .before .before .before .before .before .before .before .pre .0, (omega (arith, length-drop (l .row) (a .rows .now), m .aligned, p .0), ((p .1 .0 .0, m .at-small), (p .1 .1 .0 .0, (m .used-fits, ((rw (l .inv .2) (p .1 .1 .1 .0 .0), rw (l .inv .3) (p .1 .1 .1 .1)), kept-here (a .first .now) (a .second .now) (a .output .now) (a .pool .now) (a .rows .now) (a .writer .names) (a .writer .written) (l .row) (l .tally) (l .notes) (l .heads) m (p .1 .1 .0 .1)))))))
+    (c .before .before .before .before .before .before .before .before .before .before .before .before .before .before .before .pre .0, (asked .0, ((p .1 .0 .0, m .at-small), (p .1 .1 .0 .0, (m .used-fits, ((slots-kept _ _ (l .inv .2) (p .1 .1 .1 .0 .0), slots-kept _ _ (l .inv .3) (p .1 .1 .1 .1)), asked .1))))))
 
 enum-known-r : tie.Need-enum-known-r Inv-loop μ-loop
 enum-known-r c = search needs
@@ -56,9 +55,8 @@ returns : tie.Need-returns Inv-loop μ-loop
 returns c = let a = c .before .before .before .before .before .before .before .before .before .before .before .before .before .before .before .before .before .before .before .before .before .before .before .before .before .args in
     let p = c .before .before .before .before .before .before .before .before .before .before .before .before .before .before .before .before .before .before .before .before .before .before .before .before .before .pre .1 in
     let l = c .before .before .before .before .before .before .before .before .before .before .before .before .before .before .before .loop in
-    let m = l .inv .0 in
-    let said = rw (to-end (a .rows .now) (l .row), c .before .r .given .1) at (c .before .before .before .before .before .before .before .before .before .measure-row .ensures _ (m .names-are) (m .knows)) in
-    row-stops (a .first .now) (a .second .now) (a .output .now) (a .pool .now) (a .rows .now) (a .writer .names) (a .writer .written) (l .row) (l .tally) (l .notes) (l .heads) m (omega arith) (p .0) _ _ said
+    let said = c .before .before .before .before .before .before .before .before .before .measure-row in
+    row-refused (a .first .now) (a .second .now) (a .output .now) (a .pool .now) (a .rows .now) (a .writer .names) (a .writer .written) (l .row) (l .tally) (l .notes) (l .heads) (l .inv .0) (c .before .before .before .before .before .before .before .before .before .before .before .before .before .before .loop-test .taken) (p .0) (said .result) (said .last .1 .1 .1 .1 .1 .1 .1 .0) (said .last .1 .1 .1 .1 .1 .1 .1 .1 .0) (said .ensures) (c .before .r .given .0 .0) (c .before .r .given .1)
 
 enum-told : tie.Need-enum-told Inv-loop μ-loop
 enum-told c = search needs
@@ -73,8 +71,11 @@ same-length-6 : tie.Need-same-length-6 Inv-loop μ-loop
 same-length-6 c = c .before .before .before .before .before .before .before .before .measure-row .kept .1 .1 .1 .1 .1 .1 .1 .1 .1 .0 ∙ c .before .before .before .before .before .before .before .before .before .before .before .before .before .before .loop .inv .3
 
 returns-2 : tie.Need-returns-2 Inv-loop μ-loop
-returns-2 c = let m = c .before .before .before .before .before .before .before .before .before .before .before .before .before .before .loop .inv .0 in
-    rw (c .enum-told .given .1) at (c .before .before .before .before .before .before .before .before .measure-row .ensures _ (m .names-are) (m .knows))
+returns-2 c = let a = c .before .before .before .before .before .before .before .before .before .before .before .before .before .before .before .before .before .before .before .before .before .before .before .before .args in
+    let p = c .before .before .before .before .before .before .before .before .before .before .before .before .before .before .before .before .before .before .before .before .before .before .before .before .pre .1 in
+    let l = c .before .before .before .before .before .before .before .before .before .before .before .before .before .before .loop in
+    let said = c .before .before .before .before .before .before .before .before .measure-row in
+    row-crowded (a .first .now) (a .second .now) (a .output .now) (a .pool .now) (a .rows .now) (a .writer .names) (a .writer .written) (l .row) (l .tally) (l .notes) (l .heads) (l .inv .0) (c .before .before .before .before .before .before .before .before .before .before .before .before .before .loop-test .taken) (p .0) (said .result) (said .last .1 .1 .1 .1 .1 .1 .1 .0) (said .last .1 .1 .1 .1 .1 .1 .1 .1 .0) (said .ensures) (c .enum-told .given .1)
 
 enum-known-t : tie.Need-enum-known-t Inv-loop μ-loop
 enum-known-t c = search needs
@@ -83,8 +84,7 @@ add-row : tie.Need-add-row Inv-loop μ-loop
 add-row c = let a = c .before .before .before .before .before .before .before .before .before .before .before .before .before .before .before .before .before .before .before .before .before .before .before .before .before .args in
     let p = c .before .before .before .before .before .before .before .before .before .before .before .before .before .before .before .before .before .before .before .before .before .before .before .before .before .pre .1 in
     let l = c .before .before .before .before .before .before .before .before .before .before .before .before .before .before .before .loop in
-    let m = l .inv .0 in
-    omega (arith, c .before .before .before .before .before .before .before .before .before .before .before .before .before .before .before .before .before .before .before .before .before .before .before .before .before .good .1 .1 .0, m .aligned, p .0)
+    omega (arith, turn-ends (a .first .now) (a .second .now) (a .output .now) (a .pool .now) (a .rows .now) (a .writer .names) (a .writer .written) (l .row) (l .tally) (l .notes) (l .heads) (l .inv .0) (c .before .before .before .before .before .before .before .before .before .before .before .before .before .before .loop-test .taken) (p .0), c .before .before .before .before .before .before .before .before .before .before .before .before .before .before .before .before .before .before .before .before .before .before .before .before .before .good .1 .1 .0)
 
 ends-at-requires : tie.Need-ends-at-requires Inv-loop μ-loop
 ends-at-requires c κs = search needs
@@ -108,10 +108,11 @@ returns-3 : tie.Need-returns-3 Inv-loop μ-loop
 returns-3 c = let a = c .before .before .before .before .before .before .before .before .before .before .before .before .before .before .before .before .before .before .before .before .before .before .before .before .before .before .before .before .before .before .before .args in
     let p = c .before .before .before .before .before .before .before .before .before .before .before .before .before .before .before .before .before .before .before .before .before .before .before .before .before .before .before .before .before .before .before .pre .1 in
     let l = c .before .before .before .before .before .before .before .before .before .before .before .before .before .before .before .before .before .before .before .before .before .loop in
-    let m = l .inv .0 in
-    let test = c .before .before .before .before .before .before .before .before .before .before .before .before .before .before .before .before .before .before .before .before .loop-test in
-    let said = rw (to-end (a .rows .now) (l .row), c .before .before .before .before .before .before .before .t .given .1) at (c .before .before .before .before .before .before .before .before .before .before .before .before .before .before .before .measure-row .ensures _ (m .names-are) (m .knows)) in
-    room-stops (a .first .now) (a .second .now) (a .output .now) (a .pool .now) (a .rows .now) (a .writer .names) (a .writer .written) (l .row) (l .tally) (l .notes) (l .heads) m (omega arith) (p .0) _ _ _ (said .0) (said .1) _ _ (sym (c .before .before .before .before .before .ends-at .ensures) ∙ c .before .before .before .before .if1 .taken) (sym (c .before .before .before .room-fault .ensures) ∙ ap faultOf (c .before .r2 .given .1))
+    let said = c .before .before .before .before .before .before .before .before .before .before .before .before .before .before .before .measure-row in
+    let t = c .before .before .before .before .before .before .before .t .given in
+    let last = c .before .before .before .before .before .ends-at in
+    let room = c .before .before .before .room-fault in
+    room-refused (a .first .now) (a .second .now) (a .output .now) (a .pool .now) (a .rows .now) (a .writer .names) (a .writer .written) (l .row) (l .tally) (l .notes) (l .heads) (l .inv .0) (c .before .before .before .before .before .before .before .before .before .before .before .before .before .before .before .before .before .before .before .before .loop-test .taken) (p .0) (said .result) (said .last .1 .1 .1 .1 .1 .1 .1 .0) (said .last .1 .1 .1 .1 .1 .1 .1 .1 .0) (said .ensures) (t .0 .0) (t .1) (last .result) (last .ensures) (c .before .before .before .before .if1 .taken) (room .result) (room .ensures) (c .before .r2 .given .0 .0) (c .before .r2 .given .1)
 
 enum-told-2 : tie.Need-enum-told-2 Inv-loop μ-loop
 enum-told-2 c = search needs
@@ -120,33 +121,32 @@ loop-less : tie.Need-loop-less Inv-loop μ-loop
 loop-less c = let a = c .before .before .before .before .before .before .before .before .before .before .before .before .before .before .before .before .before .before .before .before .before .before .before .before .before .before .before .before .before .before .args in
     let p = c .before .before .before .before .before .before .before .before .before .before .before .before .before .before .before .before .before .before .before .before .before .before .before .before .before .before .before .before .before .before .pre .1 in
     let l = c .before .before .before .before .before .before .before .before .before .before .before .before .before .before .before .before .before .before .before .before .loop in
-    let m = l .inv .0 in
-    omega (arith, m .aligned, p .0)
+    turn-falls (a .first .now) (a .second .now) (a .output .now) (a .pool .now) (a .rows .now) (a .writer .names) (a .writer .written) (l .row) (l .tally) (l .notes) (l .heads) (l .inv .0) (c .before .before .before .before .before .before .before .before .before .before .before .before .before .before .before .before .before .before .before .loop-test .taken) (p .0)
 
 loop-again : tie.Need-loop-again Inv-loop μ-loop
 loop-again c = let a = c .before .before .before .before .before .before .before .before .before .before .before .before .before .before .before .before .before .before .before .before .before .before .before .before .before .before .before .before .before .before .args in
     let p = c .before .before .before .before .before .before .before .before .before .before .before .before .before .before .before .before .before .before .before .before .before .before .before .before .before .before .before .before .before .before .pre .1 in
     let l = c .before .before .before .before .before .before .before .before .before .before .before .before .before .before .before .before .before .before .before .before .loop in
-    let m = l .inv .0 in
-    let test = c .before .before .before .before .before .before .before .before .before .before .before .before .before .before .before .before .before .before .before .loop-test .taken in
-    let said = rw (to-end (a .rows .now) (l .row), c .before .before .before .before .before .before .t .given .1) at (c .before .before .before .before .before .before .before .before .before .before .before .before .before .before .measure-row .ensures _ (m .names-are) (m .knows)) in
-    (goes-on-past (a .first .now) (a .second .now) (a .output .now) (a .pool .now) (a .rows .now) (a .writer .names) (a .writer .written) (l .row) (l .tally) (l .notes) (l .heads) m (omega (arith, test)) (p .0) _ _ _ (said .0) (said .1) (p .1 .0 .0) (sym (c .before .before .before .before .ends-at .ensures) ∙ c .before .before .before .if1 .taken) (sym (c .before .before .room-fault .ensures) ∙ ap faultOf (c .enum-told2 .given .1)), c .before .before .before .before .before .before .before .before .before .before .before .before .before .before .measure-row .kept .1 .1 .1 .1 .1 .1 .1 .0 ∙ l .inv .1, c .before .before .before .before .before .before .before .before .before .before .before .before .before .before .measure-row .kept .1 .1 .1 .1 .1 .1 .1 .1 .0 ∙ l .inv .2, c .before .before .before .before .before .before .before .before .before .before .before .before .before .before .measure-row .kept .1 .1 .1 .1 .1 .1 .1 .1 .1 .0 ∙ l .inv .3)
+    let said = c .before .before .before .before .before .before .before .before .before .before .before .before .before .before .measure-row in
+    let t = c .before .before .before .before .before .before .t .given in
+    let last = c .before .before .before .before .ends-at in
+    let room = c .before .before .room-fault in
+    (row-last (a .first .now) (a .second .now) (a .output .now) (a .pool .now) (a .rows .now) (a .writer .names) (a .writer .written) (l .row) (l .tally) (l .notes) (l .heads) (l .inv .0) (c .before .before .before .before .before .before .before .before .before .before .before .before .before .before .before .before .before .before .before .loop-test .taken) (p .0) (said .result) (said .last .1 .1 .1 .1 .1 .1 .1 .0) (said .last .1 .1 .1 .1 .1 .1 .1 .1 .0) (said .ensures) (t .0 .0) (t .1) (last .result) (last .ensures) (c .before .before .before .if1 .taken) (room .result) (room .ensures) (p .1 .0 .0) (c .enum-told2 .given .1), said .kept .1 .1 .1 .1 .1 .1 .1 .0 ∙ l .inv .1, said .kept .1 .1 .1 .1 .1 .1 .1 .1 .0 ∙ l .inv .2, said .kept .1 .1 .1 .1 .1 .1 .1 .1 .1 .0 ∙ l .inv .3)
 
 loop-less-2 : tie.Need-loop-less-2 Inv-loop μ-loop
 loop-less-2 c = let a = c .before .before .before .before .before .before .before .before .before .before .before .before .before .before .before .before .before .before .before .before .before .before .before .before .before .before .before .args in
     let p = c .before .before .before .before .before .before .before .before .before .before .before .before .before .before .before .before .before .before .before .before .before .before .before .before .before .before .before .pre .1 in
     let l = c .before .before .before .before .before .before .before .before .before .before .before .before .before .before .before .before .before .loop in
-    let m = l .inv .0 in
-    omega (arith, m .aligned, p .0)
+    turn-falls (a .first .now) (a .second .now) (a .output .now) (a .pool .now) (a .rows .now) (a .writer .names) (a .writer .written) (l .row) (l .tally) (l .notes) (l .heads) (l .inv .0) (c .before .before .before .before .before .before .before .before .before .before .before .before .before .before .before .before .loop-test .taken) (p .0)
 
 loop-again-2 : tie.Need-loop-again-2 Inv-loop μ-loop
 loop-again-2 c = let a = c .before .before .before .before .before .before .before .before .before .before .before .before .before .before .before .before .before .before .before .before .before .before .before .before .before .before .before .args in
     let p = c .before .before .before .before .before .before .before .before .before .before .before .before .before .before .before .before .before .before .before .before .before .before .before .before .before .before .before .pre .1 in
     let l = c .before .before .before .before .before .before .before .before .before .before .before .before .before .before .before .before .before .loop in
-    let m = l .inv .0 in
-    let test = c .before .before .before .before .before .before .before .before .before .before .before .before .before .before .before .before .loop-test .taken in
-    let said = rw (to-end (a .rows .now) (l .row), c .before .before .before .t .given .1) at (c .before .before .before .before .before .before .before .before .before .before .before .measure-row .ensures _ (m .names-are) (m .knows)) in
-    (goes-on (a .first .now) (a .second .now) (a .output .now) (a .pool .now) (a .rows .now) (a .writer .names) (a .writer .written) (l .row) (l .tally) (l .notes) (l .heads) m (omega (arith, test)) (p .0) _ _ _ (said .0) (said .1) (p .1 .0 .0) (sym (c .before .ends-at .ensures) ∙ c .if1 .left), c .before .before .before .before .before .before .before .before .before .before .before .measure-row .kept .1 .1 .1 .1 .1 .1 .1 .0 ∙ l .inv .1, c .before .before .before .before .before .before .before .before .before .before .before .measure-row .kept .1 .1 .1 .1 .1 .1 .1 .1 .0 ∙ l .inv .2, c .before .before .before .before .before .before .before .before .before .before .before .measure-row .kept .1 .1 .1 .1 .1 .1 .1 .1 .1 .0 ∙ l .inv .3)
+    let said = c .before .before .before .before .before .before .before .before .before .before .before .measure-row in
+    let t = c .before .before .before .t .given in
+    let last = c .before .ends-at in
+    (row-inside (a .first .now) (a .second .now) (a .output .now) (a .pool .now) (a .rows .now) (a .writer .names) (a .writer .written) (l .row) (l .tally) (l .notes) (l .heads) (l .inv .0) (c .before .before .before .before .before .before .before .before .before .before .before .before .before .before .before .before .loop-test .taken) (p .0) (said .result) (said .last .1 .1 .1 .1 .1 .1 .1 .0) (said .last .1 .1 .1 .1 .1 .1 .1 .1 .0) (said .ensures) (t .0 .0) (t .1) (last .result) (last .ensures) (p .1 .0 .0) (c .if1 .left), said .kept .1 .1 .1 .1 .1 .1 .1 .0 ∙ l .inv .1, said .kept .1 .1 .1 .1 .1 .1 .1 .1 .0 ∙ l .inv .2, said .kept .1 .1 .1 .1 .1 .1 .1 .1 .1 .0 ∙ l .inv .3)
 
 same-length-10 : tie.Need-same-length-10 Inv-loop μ-loop
 same-length-10 c = c .before .loop .inv .1
