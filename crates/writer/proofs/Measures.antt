@@ -8,6 +8,7 @@ use native.Mathlib.Omega.{arith}
 use lib.ListN.{length, getD, set, take, length-append}
 use lib.Seq.{sets, length-sets, length-take-le}
 use Rattle.wire.specs.Header.{be16, be32}
+use Rattle.wire.specs.Limits.{maxStore}
 use Rattle.wire.specs.Token.{internedNew}
 use Rattle.event.specs.Span.{span}
 use Rattle.event.specs.Row.{Row, shape, hasName, valueAt, rowAt}
@@ -20,16 +21,21 @@ use Rattle.writer_spec.specs.Encode.{find, nameBy, nameBytes, valueBytes, rowBy
 use Rattle.writer_spec.specs.Faults.{stringFault, valueFault}
 use Rattle.writer_spec.specs.Writer.{Refusal, _before_, refuseIf, rowRefusal}
 use Rattle.byte_copy.specs.Sets.{take-sets}
-use Rattle.writer.specs.Answers.{takes, stops, measured, placed, barred, placedBy, nameFoundOf}
+use Rattle.writer.specs.Answers.{takes, stops, measured, sizeOf, placed, barred, placedBy, nameFoundOf}
 use Rattle.pool_index.specs.Slots.{slotOf}
 use Rattle.writer.specs.Notes.{noteName, noteIndex, count, Unnoted, LookSays}
 use Rattle.writer.specs.declared.notes.Look.the-variants as Look
 use Rattle.wire.specs.declared.Refusal as Wire
+use Rattle.writer.specs.declared.sizes.Size.{Size}
+use Rattle.writer.specs.declared.sizes.Size.the-variants as Size
+use Rattle.writer.specs.declared.measure.Tally.{Tally}
+use Rattle.writer.specs.declared.measure.RowSize.{RowSize}
+use Rattle.writer.specs.declared.measure.RowSize.the-variants as RowSize
 use Rattle.writer.specs.declared.measure.NameFound.{NameFound}
 use Rattle.writer.specs.declared.measure.NameFound.the-variants as NameFound
 use Rattle.writer.specs.declared.measure.NameSize.{NameSize}
 use Rattle.writer.specs.declared.measure.NameSize.the-variants as NameSize
-use Rattle.writer.specs.Passes.{nameRefusal, capped, most-notes, bad, found, Known, Kept, NameTakes, NameSays, NameMeasured, RowNamed, RowNameSays, RowTakes}
+use Rattle.writer.specs.Passes.{nameRefusal, capped, most-notes, bad, found, Known, Kept, NameTakes, NameSays, NameMeasured, RowNamed, RowNameSays, RowNameMeasured, RowTakes, RowMeasured}
 use Rattle.writer.proofs.Pools.{keep-there, keep-new, keep-full, find-below}
 use Rattle.writer.proofs.Links.{count-more, name-new}
 use Rattle.writer.proofs.Noting.{few, still, noted-kept, noted-new}
@@ -254,7 +260,7 @@ module _ (first second output table : List ℕ) (kept : ℕ) (pool : Pool) (r : 
   size-of-value = length (valueBytes (r .value))
 
   module _ (size names′ : ℕ) (notes notes′ heads′ : List ℕ) (t : RowNamed first second output table kept pool r size names′ notes notes′ heads′) where
-    pub row-takes : (at at′ m : ℕ) → takes m ≡ measured fault size-of-value → at′ ≡ capped (length output) (at + 1 + size + m)
+    row-takes : (at at′ m : ℕ) → takes m ≡ measured fault size-of-value → at′ ≡ capped (length output) (at + 1 + size + m)
         → RowTakes first second output table kept pool r at at′ names′ notes notes′ heads′
     unfolding rowRefusal
     row-takes at at′ m v e =
@@ -268,11 +274,11 @@ module _ (first second output table : List ℕ) (kept : ℕ) (pool : Pool) (r : 
           settled = t .settled;
         }
 
-    pub value-stops : (a b : ℕ) → stops a b ≡ measured fault size-of-value → rowRefusal (bad first second output table kept) r ≡ some (a, b)
+    value-stops : (a b : ℕ) → stops a b ≡ measured fault size-of-value → rowRefusal (bad first second output table kept) r ≡ some (a, b)
     unfolding rowRefusal
     value-stops a b v = rw (t .passes, measured-stops fault size-of-value a b v)
 
-  pub name-stops : (a b : ℕ) → cond (hasName (r .kind)) (nameRefusal (bad first second output table kept) (r .name)) none ≡ some (a, b)
+  name-stops : (a b : ℕ) → cond (hasName (r .kind)) (nameRefusal (bad first second output table kept) (r .name)) none ≡ some (a, b)
       → rowRefusal (bad first second output table kept) r ≡ some (a, b)
   unfolding rowRefusal
   name-stops a b e = rw e
@@ -441,7 +447,7 @@ module _ (first second w : List ℕ) where
   unfolding rowAt
   value-short = value-by (getD w 5 0) (getD w 6 0) (getD w 7 0) (shape (getD w 4 0))
 
-  pub more-small : (m : ℕ)
+  more-small : (m : ℕ)
       → takes m ≡ measured (valueFault (shape (rowAt first second w .type)) (rowAt first second w .value)) (length (valueBytes (rowAt first second w .value)))
       → m ≤ 8 + getD w 7 0
   more-small m e =
@@ -457,10 +463,54 @@ module _ (first second w : List ℕ) where
   named-by pool n none e = omega (arith, size-new pool n e)
   named-by pool n (some i) e = omega (arith, size-there pool n i e)
 
-  pub size-small : (output table : List ℕ) (kept : ℕ) (pool : Pool) (size names′ : ℕ) (notes notes′ heads′ : List ℕ)
+  size-small : (output table : List ℕ) (kept : ℕ) (pool : Pool) (size names′ : ℕ) (notes notes′ heads′ : List ℕ)
       → RowNamed first second output table kept pool (rowAt first second w) size names′ notes notes′ heads′ → size ≤ 4 + getD w 3 0
   size-small output table kept pool size names′ notes notes′ heads′ t =
       let r : Row = rowAt first second w in
       let b : length (cond (hasName (r .kind)) (nameBytes pool (r .name)) []) ≤ 4 + length (r .name) =
       cond-by (λ (x : List ℕ). length x ≤ 4 + length (r .name)) (hasName (r .kind)) (nameBytes pool (r .name)) [] (λ _. named-by pool (r .name) (find pool (r .name)) refl) (λ _. omega arith) in
       omega (arith, t .size-is, b, name-short)
+
+-- ---- a row, by what its name takes
+
+module _ (first second output table : List ℕ) (kept : ℕ) (w : List ℕ) (t : Tally) (notes heads notes′ heads′ : List ℕ) (s : NameSize)
+    (says : RowNameMeasured first second output table kept (t .names) (rowAt first second w) (t .used) notes heads notes′ heads′ s) where
+  abbrev row : Row
+  row = rowAt first second w
+
+  abbrev Done : RowSize → Type 0
+  Done r = RowMeasured first second output table kept row t notes heads notes′ heads′ r
+
+  pub name-refused : (x : Wire.Refusal) → s ≡ NameSize.Refused x → Done (RowSize.Refused x)
+  name-refused x is pool c k = name-stops first second output table kept pool row (x .number) (x .detail) (rw is at (says pool c k))
+
+  pub name-crowded : s ≡ NameSize.Crowded → Done RowSize.Crowded
+  name-crowded is pool c k = rw is at (says pool c k)
+
+  module _ (size names used : ℕ) (is : s ≡ NameSize.Takes size names used) where
+    named : (pool : Pool) → length pool ≡ t .names → Known first second output table kept pool (take (t .used) notes) heads
+        → RowNameSays first second output table kept pool row (t .used) notes notes′ heads′ (NameSize.Takes size names used)
+    named pool c k = rw is at (says pool c k)
+
+    module _ (k : Kept first second output table kept (t .names) (take (t .used) notes) heads) (near : t .at ≤ maxStore + 1) (b : getD w 3 0 < 4294967296) where
+      name-short-enough : size ≤ 4 + getD w 3 0
+      name-short-enough = size-small first second w output table kept (k .0) size names (take (t .used) notes) (take used notes′) heads′ (named (k .0) (k .1) (k .3) .1)
+
+      pub name-fits : t .at + 1 + size < 18446744073709551616
+      name-fits = omega (arith, name-short-enough)
+
+    module _ (v : Size) (value : sizeOf v ≡ measured (valueFault (shape (row .type)) (row .value)) (length (valueBytes (row .value)))) where
+      pub value-refused : (x : Wire.Refusal) → v ≡ Size.Refused x → Done (RowSize.Refused x)
+      value-refused x e pool c k =
+          value-stops first second output table kept pool row size names (take (t .used) notes) (take used notes′) heads′ (named pool c k .1) (x .number) (x .detail)
+          (sym (ap sizeOf e) ∙ value)
+
+      module _ (more : ℕ) (e : v ≡ Size.Takes more) where
+        pub value-fits : Kept first second output table kept (t .names) (take (t .used) notes) heads → t .at ≤ maxStore + 1 → getD w 3 0 < 4294967296
+            → getD w 7 0 < 4294967296 → t .at + 1 + size + more < 18446744073709551616
+        value-fits k near b d = omega (arith, name-short-enough k near b, more-small first second w more (sym (ap sizeOf e) ∙ value))
+
+        pub row-measured : (at : ℕ) → at ≡ capped (length output) (t .at + 1 + size + more) → Done (RowSize.Takes (record { at = at; names = names; used = used }))
+        row-measured at a pool c k =
+            let n = named pool c k in
+            (n .0, row-takes first second output table kept pool row size names (take (t .used) notes) (take used notes′) heads′ (n .1) (t .at) at more (sym (ap sizeOf e) ∙ value) a)
