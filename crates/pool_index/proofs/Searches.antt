@@ -2,7 +2,7 @@
 use mathlib.Core.Bool.{true, false}
 use mathlib.Core.Option.{Option, none, some, Option·map}
 use mathlib.Core.List.{List}
-use mathlib.Core.Path.{_≡_, refl, ap, _∙_}
+use mathlib.Core.Path.{_≡_, refl, sym, ap, _∙_}
 use Prim.Native.Nat.{ℕ, suc, _+_, _*_, _-_, _≤_, _<_}
 use native.Mathlib.Nat.{add-zero, zero-add, sub-zero}
 use native.Mathlib.Omega.{arith}
@@ -64,6 +64,9 @@ module _ (output name : List ℕ) where
     pub left-end : (i : ℕ) → names ≤ i → left i ≡ some none
     unfolding searched meetsBad poolAt find
     left-end i h = (let e : names - i ≡ 0 = omega arith in rw e)
+
+    pub left-none : names ≡ 0 → some none ≡ searched output names table name
+    left-none e = sym (left-end 0 (omega arith)) ∙ left-all
 
     module _ (i : ℕ) (k : i < names) where
       count-is : names - i ≡ suc (names - (i + 1))

@@ -125,7 +125,7 @@ fn index_pool(output: &[u8], pool: &[u32], names: usize, index: &mut [u16])
 }
 
 // What `search_pool` finds, by the index. Of words that are no index of the pool it reads none outside the slices, and ends: the number
-// falls along a chain.
+// falls along a chain. What it answers of them has no meaning; one answer for all leaves the caller's loop its registers.
 fn search_index(output: &[u8], pool: &[u32], names: usize, name: &[u8], index: &[u16]) -> Found
     requires { ⌜ 2 * names ≤ length (now pool) ⌝ }
     requires { ⌜ length (now index) ≡ 81920 ⌝ }
@@ -135,19 +135,19 @@ fn search_index(output: &[u8], pool: &[u32], names: usize, name: &[u8], index: &
     while next != 0 {
         let i = 65_535 - next;
         if names <= i {
-            return Found::Bad;
+            return Found::Nowhere;
         }
         let start = pool[2 * i] as usize;
         let len = pool[2 * i + 1] as usize;
         if output.len() < start + len {
-            return Found::Bad;
+            return Found::Nowhere;
         }
         if spans_name(output, start, len, name) {
             return Found::At(i);
         }
         let after = index[16_385 + i] as usize;
         if next <= after {
-            return Found::Bad;
+            return Found::Nowhere;
         }
         next = after;
     }
@@ -175,10 +175,13 @@ pub fn prepare(output: &[u8], pool: &[u32], names: usize, index: &mut [u16])
 }
 
 // The first pair that spans the name, among so many, by the index where there is one; Bad where a pair that ends outside the output
-// comes before it.
+// comes before it. The first list of a document asks of no pairs, for each of its names.
 pub fn search(output: &[u8], pool: &[u32], names: usize, name: &[u8], index: &[u16]) -> Found
     ensures { λ r. ⌜ (2 * names ≤ length (now (pool .entry)) → MaybeIndexed (now (output .entry)) (now (pool .entry)) names (now (index .entry)) → foundOf r ≡ searched (now (output .entry)) names (now (pool .entry)) (now (name .entry))) ⌝ }
 {
+    if names == 0 {
+        return Found::Nowhere;
+    }
     if pool.len() / 2 < names {
         return Found::Bad;
     }
