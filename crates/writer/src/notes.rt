@@ -102,13 +102,14 @@ pub(crate) fn recall(w: &[u32], notes: &[u32], seen: &[u16]) -> Look
 {
     let start = w[2];
     let k = seen[pool_index::slot_by(start as u64, seen.len() as u16)] as usize;
-    if notes.len() < 5 * k + 5 {
+    let note = 5 * k;
+    if notes.len() < note + 5 {
         return Look::Nowhere;
     }
-    if notes[5 * k + 1] == start {
-        if notes[5 * k + 2] == w[3] {
-            if notes[5 * k] == w[1] {
-                return Look::At(notes[5 * k + 3]);
+    if notes[note + 1] == start {
+        if notes[note + 2] == w[3] {
+            if notes[note] == w[1] {
+                return Look::At(notes[note + 3]);
             }
         }
     }

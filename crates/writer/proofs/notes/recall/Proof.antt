@@ -30,8 +30,8 @@ shared-slice-read-k c = rw (c .before .slot-by .ensures) (slot-by-below _ _ (c .
 cast-k : tie.Need-cast-k
 cast-k c = omega (arith, c .shared-slice-known5 .given (c .before .slot-by .result))
 
-mul-if1 : tie.Need-mul-if1
-mul-if1 c = omega (arith, c .shared-slice-known5 .given (c .before .slot-by .result))
+mul-note : tie.Need-mul-note
+mul-note c = omega (arith, c .shared-slice-known5 .given (c .before .slot-by .result))
 
 add-if1 : tie.Need-add-if1
 add-if1 c = omega (arith, c .shared-slice-known5 .given (c .before .slot-by .result))
@@ -39,26 +39,20 @@ add-if1 c = omega (arith, c .shared-slice-known5 .given (c .before .slot-by .res
 returns : tie.Need-returns
 returns c = search needs
 
-mul-if2 : tie.Need-mul-if2
-mul-if2 c = search needs
-
 add-if2 : tie.Need-add-if2
 add-if2 c = search needs
 
-mul-if2-2 : tie.Need-mul-if2-2
-mul-if2-2 c = search needs
+mul-if2 : tie.Need-mul-if2
+mul-if2 c = search needs
 
 shared-slice-read-if2 : tie.Need-shared-slice-read-if2
 shared-slice-read-if2 c = search needs
 
-mul-if3 : tie.Need-mul-if3
-mul-if3 c = search needs
-
 add-if3 : tie.Need-add-if3
 add-if3 c = search needs
 
-mul-if3-2 : tie.Need-mul-if3-2
-mul-if3-2 c = search needs
+mul-if3 : tie.Need-mul-if3
+mul-if3 c = search needs
 
 shared-slice-read-if3 : tie.Need-shared-slice-read-if3
 shared-slice-read-if3 c = search needs
@@ -69,26 +63,20 @@ shared-slice-read-if3-2 c = search needs
 mul-if4 : tie.Need-mul-if4
 mul-if4 c = search needs
 
-mul-if4-2 : tie.Need-mul-if4-2
-mul-if4-2 c = search needs
-
 shared-slice-read-if4 : tie.Need-shared-slice-read-if4
 shared-slice-read-if4 c = search needs
 
 shared-slice-read-if4-2 : tie.Need-shared-slice-read-if4-2
 shared-slice-read-if4-2 c = search needs
 
+add-t31 : tie.Need-add-t31
+add-t31 c = search needs
+
 mul-t32 : tie.Need-mul-t32
 mul-t32 c = search needs
 
-add-t33 : tie.Need-add-t33
-add-t33 c = search needs
-
-mul-t34 : tie.Need-mul-t34
-mul-t34 c = search needs
-
-shared-slice-read-t36 : tie.Need-shared-slice-read-t36
-shared-slice-read-t36 c = search needs
+shared-slice-read-t34 : tie.Need-shared-slice-read-t34
+shared-slice-read-t34 c = search needs
 
 returns-2 : tie.Need-returns-2
 returns-2 c =
@@ -114,26 +102,22 @@ recall-spec =
     mul-k
     shared-slice-read-k
     cast-k
-    mul-if1
+    mul-note
     add-if1
     returns
-    mul-if2
     add-if2
-    mul-if2-2
+    mul-if2
     shared-slice-read-if2
-    mul-if3
     add-if3
-    mul-if3-2
+    mul-if3
     shared-slice-read-if3
     shared-slice-read-if3-2
     mul-if4
-    mul-if4-2
     shared-slice-read-if4
     shared-slice-read-if4-2
+    add-t31
     mul-t32
-    add-t33
-    mul-t34
-    shared-slice-read-t36
+    shared-slice-read-t34
     returns-2
     returns-3
     returns-4
