@@ -16,9 +16,9 @@ use Rattle.writer_spec.specs.Writer.{Writer, Lent, refused, Left, Refusal, _bef
 use Rattle.grammar.specs.Choice.{neither}
 use Rattle.writer_spec.specs.Laws.{both-forms, pool-count}
 use Rattle.writer_spec.specs.Unrefused.{fits}
-use Rattle.writer.specs.Answers.{lentOf, stateOf, formsBy}
+use Rattle.writer.specs.Answers.{lentOf, formsBy}
 use Rattle.pool_index.specs.Slots.{Fresh}
-use Rattle.writer.specs.Passes.{most-notes, callFault, Slots, MeasureSays, Tried, TriedBy, Ready}
+use Rattle.writer.specs.Passes.{most-notes, callFault, Slots, MeasureSays, TriedBy, Ready}
 use Rattle.wire.specs.declared.Refusal as Wire
 use Rattle.writer.specs.declared.Writer as Code
 use Rattle.writer.specs.declared.measure.Measured.{Measured}
@@ -151,7 +151,7 @@ module _ (first second output table rows notes heads : List ℕ) (w : Code.Write
         let room = fits (lentOf output table) _ (rowsIn first second rows) (w .written) (poolAt output (w .names) table) o (rw (pool-count output (w .names) table) t) unrefused in
         record { bytes-fit = room .0; pairs-fit = room .1; knows = used-says .2; settled = used-says .3 }
 
--- ---- arrays of zeros, whose length nothing computes
+-- ---- arrays of zeros: their length is told, and computed once
 
 pub zeros : (n : ℕ) → n ≡ length {A = ℕ} (replicate n 0)
 zeros n = sym (length-replicate n 0)
@@ -188,8 +188,3 @@ module _ (single : Bool) (w : Code.Writer) (first second rows output table outpu
   never-crowded r e t =
       let u : By most-notes Outcome.Crowded = rw e at t in
       omega (arith, u .1)
-
-  -- rows that form are tried by what measuring says
-  pub tried-formed : (size : ℕ) (r : Outcome) → formsBy single first second rows ≡ true
-      → Tried true (stateOf w) (lentOf output table) (rowsIn first second rows) output′ table′ size r → By size r
-  tried-formed size r e t = rw e t
