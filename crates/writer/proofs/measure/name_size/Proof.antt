@@ -1,5 +1,5 @@
 use native.Mathlib.Omega.{arith}
-use mathlib.Core.Path.{sym, _∙_}
+use mathlib.Core.Path.{refl, sym, _∙_}
 use lib.ListN.{length}
 use lib.Seq.{length-take-le}
 use Rattle.event.specs.Row.{rowAt}
@@ -57,10 +57,10 @@ unnoted-size-requires c κs = let a = c .before .before .before .before .before 
     (c .before .before .before .before .before .before .before .before .before .before .before .before .before .before .before .before .before .before .before .before .pre .0, (p .0, (c .before .before .before .before .before .before .before .before .name-in .ensures .0, (p .1 .0, (p .1 .1 .0, ((c .before .before .before .before .before .before .before .slot-of .ensures, rw (c .before .before .before .before .before .before .before .slot-of .ensures) (slot-below (length (a .heads .now)) _ (p .1 .1 .1 .0 .some-slots))), (k, unnoted)))))))
 
 same-length : tie.Need-same-length
-same-length c = search needs
+same-length c = refl
 
 same-length-2 : tie.Need-same-length-2
-same-length-2 c = search needs
+same-length-2 c = refl
 
 returns : tie.Need-returns
 unfolding rowAt
@@ -74,10 +74,10 @@ returns c = let a = c .before .before .before .before .before .before .before .b
     λ pool e t. says-noted f s (a .output .now) (a .pool .now) (a .kept) pool (rowAt f s w) _ (a .notes .now) (a .used) (sym (c .before .before .before .before .before .before .before .before .has-name .ensures) ∙ c .before .before .before .before .before .before .before .if1 .taken) (name-is f s w (a .names) (sym (c .before .before .before .before .before .before .before .before .has-name .ensures) ∙ c .before .before .before .before .before .before .before .if1 .taken) ∙ sym (c .before .before .before .before .before .before .name-in .ensures .0)) (a .heads .now) _ (a .names) e (p .1 .1 .0) t says
 
 same-length-3 : tie.Need-same-length-3
-same-length-3 c = search needs
+same-length-3 c = c .before .before .before .before .unnoted-size .kept .1 .1 .1 .1 .1 .1 .1 .1 .0
 
 same-length-4 : tie.Need-same-length-4
-same-length-4 c = search needs
+same-length-4 c = c .before .before .before .before .unnoted-size .kept .1 .1 .1 .1 .1 .1 .1 .1 .1 .1 .0
 
 returns-2 : tie.Need-returns-2
 unfolding rowAt

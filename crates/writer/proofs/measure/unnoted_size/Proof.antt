@@ -83,10 +83,10 @@ add-t31 c = let a = c .before .before .before .before .before .before .before .b
     record { fits = used-small (a .first .now) (a .second .now) (a .output .now) (a .pool .now) (a .kept) (a .w .now) (a .name .now) (a .notes .now) (a .heads .now) (a .used) (a .slot) (a .names) (p .1 .0) (p .1 .1 .1 .0) (p .1 .1 .1 .1 .0) (p .1 .1 .1 .1 .1 .0) (p .1 .1 .1 .1 .1 .1) (said .result) (said .ensures) }
 
 same-length : tie.Need-same-length
-same-length c = search needs
+same-length c = c .before .before .before .before .note2 .kept .1 .1 .0
 
 same-length-2 : tie.Need-same-length-2
-same-length-2 c = search needs
+same-length-2 c = c .before .before .before .before .note2 .kept .1 .1 .1 .1 .0
 
 returns-3 : tie.Need-returns-3
 returns-3 c = let a = c .before .before .before .before .before .before .before .before .before .before .before .before .before .before .before .before .before .before .before .before .before .args in
@@ -102,10 +102,10 @@ returns-4 c = let a = c .before .before .before .before .before .before .before 
     stays-refused (a .first .now) (a .second .now) (a .output .now) (a .pool .now) (a .kept) (a .w .now) (a .name .now) (a .notes .now) (a .heads .now) (a .used) (a .slot) (a .names) (p .1 .0) (p .1 .1 .1 .0) (p .1 .1 .1 .1 .0) (p .1 .1 .1 .1 .1 .0) (p .1 .1 .1 .1 .1 .1) (said .result) (said .ensures) (c .before .r .given .0 .0) (c .before .r .given .1)
 
 same-length-3 : tie.Need-same-length-3
-same-length-3 c = search needs
+same-length-3 c = c .before .before .before .before .note .kept .1 .1 .0
 
 same-length-4 : tie.Need-same-length-4
-same-length-4 c = search needs
+same-length-4 c = c .before .before .before .before .note .kept .1 .1 .1 .1 .0
 
 returns-5 : tie.Need-returns-5
 returns-5 c = let a = c .before .before .before .before .before .before .before .before .before .before .before .before .before .before .before .before .before .before .before .before .before .args in
