@@ -1,12 +1,12 @@
 -- One event of a query, from what is taken of it to the turn that the definition makes.
-use mathlib.Core.Bool.{Bool, true, false, _||_, cond}
+use mathlib.Core.Bool.{Bool, true, false, _||_, cond, true≢false}
 use mathlib.Core.List.{List, [], _∷_, _++_, append-nil}
 use mathlib.Core.Path.{_≡_, refl, sym, ap, _∙_, fun-ext}
 use Prim.Native.Nat.{ℕ, suc, _+_, _*_, _-_, _/_, _≤_, _<_}
 use native.Mathlib.Omega.{arith}
 use borrow.Author.Tests.{lt-ltb, le-ltb, ltb-true, ltb-false, eq-eqb, ne-eqb}
 use lib.Dec.{ltb}
-use lib.ListN.{length, take, drop, getD, length-append, length-drop, List·getD-append, take-append-drop}
+use lib.ListN.{length, take, drop, getD, replicate, length-replicate, length-append, length-drop, List·getD-append, take-append-drop}
 use lib.Seq.{sets, take-all, sets-eq, length-sets, length-take-le, take-at, drop-at, getD-take}
 use Rattle.wire.specs.Refusal.{rowsFull, poolFull, badSize, badState}
 use Rattle.wire.specs.declared.Refusal.{Refusal}
@@ -33,7 +33,7 @@ use Rattle.scanner.proofs.Passes.{complete-ended}
 use Rattle.scanner.specs.declared.select.Query.{Query}
 use Rattle.scanner.specs.declared.select.Query.the-variants as Query
 use Rattle.scanner.specs.declared.select.Seen.the-variants as Seen
-use Rattle.scanner.specs.Select.{queryOf, takesOne, mostOf, rowsOf, taken, chosen, asked, Room, Whole, Handed, progress, seen, Sees, Tried, turned, unsure, inDoubt, uncountedBy, uncounted, turn-seen}
+use Rattle.scanner.specs.Select.{queryOf, takesOne, mostOf, rowsOf, taken, chosen, asked, Room, Chose, Whole, Handed, progress, seen, Sees, Tried, turned, unsure, inDoubt, uncountedBy, uncounted, turn-seen}
 
 -- ---- what the definition picks, and what the code takes
 
@@ -95,6 +95,21 @@ pub none-stored : (table : List ℕ) (k base : ℕ) (ts : List Span) → 0 ≡ l
 unfolding pairs
 none-stored table k base [] h = refl
 none-stored table k base (t ∷ ts) h = absurd (omega arith)
+
+-- rows that are only counted have room in any store; so a store of one word, which is not looked at, serves
+pub counting : (n x : ℕ) → Room false 0 n (x ∷ [])
+counting n x = record { fits = λ t. absurd (true≢false (sym t)); sized = omega arith; counts = λ _. omega arith }
+
+-- words that are so many zeros; the number is a variable, since the list is long
+pub zeros-long : (n : ℕ) → n ≤ length {A = ℕ} (replicate n 0)
+zeros-long n = omega (arith, length-replicate {A = ℕ} n 0)
+
+-- the same for a list that is equal
+pub room-by : (write : Bool) (to : ℕ) (rows : List ℕ) (vs ws : List Words) → vs ≡ ws → Room write to (length ws) rows → Room write to (length vs) rows
+room-by write to rows vs ws e r = rw e r
+
+pub chose-by : (write : Bool) (to : ℕ) (rows rows′ : List ℕ) (n : ℕ) (vs ws : List Words) → vs ≡ ws → Chose write to vs rows rows′ n → Chose write to ws rows rows′ n
+chose-by write to rows rows′ n vs ws e r = rw e at r
 
 -- ---- rows by their words
 

@@ -3,8 +3,9 @@
 use event::Shape;
 use wire::Refusal;
 ghost use mathlib.Core.Path.{_≡_};
-ghost use Prim.Native.Nat.{_*_, _≤_, _<_};
+ghost use Prim.Native.Nat.{_+_, _*_, _≤_, _<_};
 ghost use lib.ListN.{length};
+ghost use Rattle.wire.specs.Header.{u32At};
 ghost use Rattle.grammar.specs.Grammar.{u16, u32, u64, string, blob, name, value};
 ghost use Rattle.scanner.specs.Answers.{numberOf, textOf, nameOf, valueReadOf, asText, asInterned, asWord, asPair, Trusted};
 ghost use Rattle.grammar.specs.Names.{newName};
@@ -31,6 +32,14 @@ fn u16_at(s: &[u8], at: usize) -> Number
     }
 }
 
+// The u32 of the four bytes from a place on.
+pub(crate) fn be32_at(s: &[u8], at: usize) -> u32
+    requires { ⌜ at + 4 ≤ length (now s) ⌝ }
+    ensures { λ r. ⌜ r ≡ u32At (now (s .entry)) at ⌝ }
+{
+    wire::be32(s[at], s[at + 1], s[at + 2], s[at + 3])
+}
+
 fn u32_at(s: &[u8], at: usize) -> Number
     requires { ⌜ at ≤ length (now s) ⌝ }
     ensures { λ r. ⌜ numberOf r ≡ u32 (now (s .entry)) at ⌝ }
@@ -38,9 +47,8 @@ fn u32_at(s: &[u8], at: usize) -> Number
     if s.len() - at < 4 {
         return Number::Short;
     }
-    let value = wire::be32(s[at], s[at + 1], s[at + 2], s[at + 3]);
     Number::Read {
-        value,
+        value: be32_at(s, at),
         next: at + 4,
     }
 }
@@ -256,8 +264,8 @@ fn pair_at(s: &[u8], at: usize) -> ValueRead
     if s.len() - at < 8 {
         return ValueRead::Short(Refusal::UNEXPECTED_EOF);
     }
-    let high = wire::be32(s[at], s[at + 1], s[at + 2], s[at + 3]);
-    let low = wire::be32(s[at + 4], s[at + 5], s[at + 6], s[at + 7]);
+    let high = be32_at(s, at);
+    let low = be32_at(s, at + 4);
     ValueRead::Got {
         value: Value::Pair { high, low },
         next: at + 8,

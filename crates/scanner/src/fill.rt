@@ -92,7 +92,7 @@ fn word(s: &[u8], at: usize, names: usize) -> Filled
         words: Words {
             source: 0,
             a: 0,
-            b: wire::be32(s[at], s[at + 1], s[at + 2], s[at + 3]),
+            b: crate::fields::be32_at(s, at),
         },
         next: at + 4,
         names,
@@ -107,13 +107,11 @@ fn pair(s: &[u8], at: usize, names: usize) -> Filled
     if s.len() - at < 8 {
         return unfilled(names);
     }
-    let high = wire::be32(s[at], s[at + 1], s[at + 2], s[at + 3]);
-    let low = wire::be32(s[at + 4], s[at + 5], s[at + 6], s[at + 7]);
     Filled {
         words: Words {
             source: 0,
-            a: high,
-            b: low,
+            a: crate::fields::be32_at(s, at),
+            b: crate::fields::be32_at(s, at + 4),
         },
         next: at + 8,
         names,

@@ -1,5 +1,4 @@
 use Rattle.grammar.specs.Grammar.{u32}
-use Rattle.wire.specs.Header.{u32At}
 use borrow.Author.Tests.{lt-ltb, le-ltb}
 use borrow.Author.Needs.{needs}
 use Rattle.scanner.proofs.fields.u32_at.Statement.{statement}
@@ -12,50 +11,15 @@ returns : tie.Need-returns
 unfolding u32
 returns c = rw (lt-ltb _ _ (c .if1 .taken))
 
-shared-slice-read-be32 : tie.Need-shared-slice-read-be32
-shared-slice-read-be32 c = search needs
+be32-at-requires : tie.Need-be32-at-requires
+be32-at-requires c κs = search needs
 
-add-be32 : tie.Need-add-be32
-add-be32 c = search needs
-
-shared-slice-read-be32-2 : tie.Need-shared-slice-read-be32-2
-shared-slice-read-be32-2 c = search needs
-
-add-be32-2 : tie.Need-add-be32-2
-add-be32-2 c = search needs
-
-shared-slice-read-be32-3 : tie.Need-shared-slice-read-be32-3
-shared-slice-read-be32-3 c = search needs
-
-add-be32-3 : tie.Need-add-be32-3
-add-be32-3 c = search needs
-
-shared-slice-read-be32-4 : tie.Need-shared-slice-read-be32-4
-shared-slice-read-be32-4 c = search needs
-
-be32-requires : tie.Need-be32-requires
-be32-requires c κs = search needs
-
-add-t4 : tie.Need-add-t4
-add-t4 c = search needs
+add-t3 : tie.Need-add-t3
+add-t3 c = search needs
 
 returns-2 : tie.Need-returns-2
-unfolding u32 u32At
-returns-2 c = rw (le-ltb _ _ (c .before .before .before .before .before .if1 .left), c .be32 .ensures)
+unfolding u32
+returns-2 c = rw (le-ltb _ _ (c .before .if1 .left), c .be32-at .ensures)
 
 pub u32-at-spec : {M : Type 1} → statement M
-u32-at-spec =
-    tie.close
-    (tie.spec
-    sub-if1
-    returns
-    shared-slice-read-be32
-    add-be32
-    shared-slice-read-be32-2
-    add-be32-2
-    shared-slice-read-be32-3
-    add-be32-3
-    shared-slice-read-be32-4
-    be32-requires
-    add-t4
-    returns-2)
+u32-at-spec = tie.close (tie.spec sub-if1 returns be32-at-requires add-t3 returns-2)

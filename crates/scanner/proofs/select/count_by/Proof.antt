@@ -1,9 +1,7 @@
-use native.Mathlib.Omega.{arith}
-use mathlib.Core.Path.{_≡_, refl, ap, _∙_}
-use Prim.Native.Nat.{ℕ}
+use mathlib.Core.Path.{refl, ap, _∙_}
 use lib.ListN.{length}
 use Rattle.slice_spec.specs.Slice.{Place}
-use Rattle.scanner.proofs.Picking.{copy-begins, copy-sounds, copy-room, keepable, stored-keepable, stored-rows, asked-by}
+use Rattle.scanner.proofs.Picking.{counting, copy-begins, copy-sounds, copy-room, keepable, stored-keepable, stored-rows, asked-by}
 use borrow.Author.Needs.{needs}
 use Rattle.scanner.proofs.select.count_by.Statement.{statement}
 use Rattle.scanner.proofs.select.count_by.Tie as tie
@@ -49,7 +47,7 @@ take-event-requires c κs =
     let sounds = copy-sounds (a .document .now) pl (a .table .now) (a .extent .rows) (a .extent .added) w own _ (p .0) (c .before .before .before .before .before .before .before .before .put-words .ensures) in
     let room = copy-room (a .document .now) pl (a .table .now) (a .extent .rows) (a .extent .added) w own _ (p .0) (c .before .before .before .before .before .before .before .before .put-words .ensures) in
     let k = stored-keepable (a .document .now) pl (a .table .now) (a .extent .rows) (a .extent .added) w _ begins sounds room _ (c .before .before .before .before .keep .ensures) in
-    (p .1 .0, (k, (record { fits = λ t. absurd (let z : _≡_ {A = ℕ} 0 1 = cc t in omega arith); sized = omega arith; counts = λ _. omega arith }, λ _. refl)))
+    (p .1 .0, (k, (counting _ 0, λ _. refl)))
 
 same-length : tie.Need-same-length
 same-length c = search needs

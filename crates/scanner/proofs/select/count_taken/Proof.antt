@@ -1,9 +1,8 @@
-use native.Mathlib.Omega.{arith}
-use mathlib.Core.Path.{_≡_, refl, ap, _∙_}
+use mathlib.Core.Path.{refl, sym, ap, _∙_}
 use Prim.Native.Nat.{ℕ}
-use lib.ListN.{length}
+use lib.ListN.{length, length-replicate}
 use Rattle.slice_spec.specs.Slice.{Place}
-use Rattle.scanner.proofs.Picking.{kept-keepable, kept-rows, asked-by}
+use Rattle.scanner.proofs.Picking.{counting, zeros-long, kept-keepable, kept-rows, asked-by}
 use borrow.Author.Needs.{needs}
 use Rattle.scanner.proofs.select.count_taken.Statement.{statement}
 use Rattle.scanner.proofs.select.count_taken.Tie as tie
@@ -26,7 +25,7 @@ take-event-requires c κs =
     let p = c .before .before .before .before .before .before .before .before .pre in
     let pl : Place = record { at = a .at; names = a .names } in
     let w = p .1 in
-    (p .0, (kept-keepable (a .document .now) pl (a .table .now) (a .extent .rows) (a .extent .added) w (c .before .before .if1 .taken), (record { fits = λ t. absurd (let z : _≡_ {A = ℕ} 0 1 = cc t in omega arith); sized = omega arith; counts = λ _. omega arith }, λ _. refl)))
+    (p .0, (kept-keepable (a .document .now) pl (a .table .now) (a .extent .rows) (a .extent .added) w (c .before .before .if1 .taken), (counting _ 0, λ _. refl)))
 
 returns : tie.Need-returns
 returns c =
@@ -37,7 +36,7 @@ returns c =
     c .before .take-event .ensures .0 .counted ∙ ap length (asked-by (a .document .now) pl (a .table .now) (a .extent .rows) (a .extent .added) w (a .query) (a .element .now) (a .name .now) _ _ (kept-rows (a .document .now) pl (a .table .now) (a .extent .rows) (a .extent .added) w (c .before .before .before .before .if1 .taken)))
 
 slice-aggregate-count-by : tie.Need-slice-aggregate-count-by
-slice-aggregate-count-by c = search needs
+slice-aggregate-count-by c = sym (length-replicate {A = ℕ} 131_072 0)
 
 count-by-requires : tie.Need-count-by-requires
 count-by-requires c κs =
@@ -45,7 +44,7 @@ count-by-requires c κs =
     let p = c .before .before .before .before .before .before .before .pre in
     let pl : Place = record { at = a .at; names = a .names } in
     let w = p .1 in
-    (omega arith, (p .0, w))
+    (zeros-long 131_072, (p .0, w))
 
 returns-2 : tie.Need-returns-2
 returns-2 c = c .before .count-by .ensures

@@ -1,9 +1,9 @@
 use native.Mathlib.Omega.{arith}
-use mathlib.Core.Path.{_≡_, refl, ap, _∙_}
-use Prim.Native.Nat.{ℕ}
-use lib.ListN.{length}
+use mathlib.Core.Bool.{true, true≢false}
+use mathlib.Core.Path.{refl, _∙_}
+use Prim.Native.Nat.{_*_}
 use Rattle.slice_spec.specs.Slice.{Place}
-use Rattle.scanner.proofs.Picking.{more-room, added-are, keepable, stored-keepable, stored-rows, stored-kind, stored-table, asked-by}
+use Rattle.scanner.proofs.Picking.{room-by, chose-by, more-room, added-are, keepable, stored-keepable, stored-rows, stored-kind, stored-table, asked-by}
 use borrow.Author.Needs.{needs}
 use Rattle.scanner.proofs.select.hand_out.Statement.{statement}
 use Rattle.scanner.proofs.select.hand_out.Tie as tie
@@ -43,8 +43,8 @@ take-event-requires c κs =
     let w = p .1 .0 in
     let room = more-room (a .document .now) pl (a .table .now) (a .extent .rows) (a .extent .added) w (p .1 .1 .0) in
     let k = stored-keepable (a .document .now) pl (a .table .now) (a .extent .rows) (a .extent .added) w _ refl refl room _ (c .before .before .before .before .keep-added .ensures) in
-    let n = ap length (asked-by (a .document .now) pl (a .table .now) (a .extent .rows) (a .extent .added) w (a .query) (a .element .now) (a .name .now) _ _ (stored-rows (a .document .now) pl (a .table .now) (a .extent .rows) (a .extent .added) w _ refl refl room _ (c .before .before .before .before .keep-added .ensures))) in
-    (p .0, (k, (rw n (p .1 .1 .1), (λ t. absurd (let z : _≡_ {A = ℕ} 0 1 = cc t in omega arith)))))
+    let z = asked-by (a .document .now) pl (a .table .now) (a .extent .rows) (a .extent .added) w (a .query) (a .element .now) (a .name .now) _ _ (stored-rows (a .document .now) pl (a .table .now) (a .extent .rows) (a .extent .added) w _ refl refl room _ (c .before .before .before .before .keep-added .ensures)) in
+    (p .0, (k, (room-by true (8 * a .written) (a .rows .now) _ _ z (p .1 .1 .1), λ t. absurd (true≢false t))))
 
 same-length : tie.Need-same-length
 same-length c = search needs
@@ -60,7 +60,7 @@ returns c =
     let w = p .1 .0 in
     let room = more-room (a .document .now) pl (a .table .now) (a .extent .rows) (a .extent .added) w (p .1 .1 .0) in
     let z = asked-by (a .document .now) pl (a .table .now) (a .extent .rows) (a .extent .added) w (a .query) (a .element .now) (a .name .now) _ _ (stored-rows (a .document .now) pl (a .table .now) (a .extent .rows) (a .extent .added) w _ refl refl room _ (c .before .before .before .before .before .before .before .keep-added .ensures)) in
-    record { chose = rw z at (c .before .before .take-event .ensures .0); kind-is = c .before .before .take-event .ensures .1 ∙ stored-kind (a .document .now) pl (a .table .now) (a .extent .rows) (a .extent .added) w _ refl refl room _ (c .before .before .before .before .before .before .before .keep-added .ensures); table-is = stored-table (a .document .now) pl (a .table .now) (a .extent .rows) (a .extent .added) w _ refl refl room _ (c .before .before .before .before .before .before .before .keep-added .ensures) }
+    record { chose = chose-by true (8 * a .written) (a .rows .now) _ _ _ _ z (c .before .before .take-event .ensures .0); kind-is = c .before .before .take-event .ensures .1 ∙ stored-kind (a .document .now) pl (a .table .now) (a .extent .rows) (a .extent .added) w _ refl refl room _ (c .before .before .before .before .before .before .before .keep-added .ensures); table-is = stored-table (a .document .now) pl (a .table .now) (a .extent .rows) (a .extent .added) w _ refl refl room _ (c .before .before .before .before .before .before .before .keep-added .ensures) }
 
 pub hand-out-spec : {M : Type 1} → statement M
 hand-out-spec =
