@@ -17,13 +17,15 @@ use Rattle.grammar.specs.Choice.{byTest}
 use Rattle.slice_spec.specs.Queries as Defined
 use Rattle.slice_spec.specs.Queries.{Words, named, isElement, concat, Progress, done, refused, tableWith}
 use Rattle.slice_spec.specs.Slice.{Place, sizesBad, placeBad, itemsAt}
-use Rattle.slice_spec.specs.Turns.{Turn, passed, halted, turnBy, turn, turnOrRefuse}
+use Rattle.slice_spec.specs.Turns.{Turn, passed, halted, passing, turnBy, turn, turnOrRefuse}
 use Rattle.scanner.specs.declared.select.Query.{Query}
 use Rattle.scanner.specs.declared.select.Query.the-variants as Query
 use Rattle.scanner.specs.declared.select.Picked.{Picked}
 use Rattle.scanner.specs.declared.select.Picked.the-variants as Picked
 use Rattle.scanner.specs.declared.select.Uncounted.{Uncounted}
 use Rattle.scanner.specs.declared.select.Uncounted.the-variants as Uncounted
+use Rattle.scanner.specs.declared.select.Extent.{Extent}
+use Rattle.scanner.specs.declared.select.Took.{Took}
 use Rattle.scanner.specs.declared.select.Seen.{Seen}
 use Rattle.scanner.specs.declared.select.Seen.the-variants as Seen
 
@@ -87,9 +89,12 @@ pub record Chose (write : Bool) (to : ℕ) (ws : List Words) (rows rows′ : Lis
 
 -- ---- one event
 
+abbrev pub placeOf : ℕ → ℕ → Place
+placeOf at names = record { at = at; names = names }
+
 -- how far a query has come: the place, the lent words, the events consumed and the rows written
 abbrev pub progress : ℕ → ℕ → List ℕ → List ℕ → ℕ → ℕ → Progress
-progress at names table rows events written = record { place = record { at = at; names = names }; table = table; rows = rows; events = events; written = written }
+progress at names table rows events written = record { place = placeOf at names; table = table; rows = rows; events = events; written = written }
 
 abbrev stays : Progress → List ℕ → List ℕ → Progress
 stays g table rows = record { place = g .place; table = table; rows = rows; events = g .events; written = g .written }
@@ -105,6 +110,9 @@ turnOf g table rows (Picked.Refused r) = halted (refused (r .number) (r .detail)
 unfoldable pub asked : Query → List ℕ → List ℕ → List ℕ → Place → List ℕ → Items → List Words
 asked q element name document p table is = chosen q document element name (rowsOf (p .at) (tableWith p table (adds (p .names) is)) is)
 
+abbrev pub askedAt : Query → List ℕ → List ℕ → List ℕ → ℕ → ℕ → List ℕ → List Words
+askedAt q element name document at names table = asked q element name document (placeOf at names) table (itemsAt (placeOf at names) document table)
+
 -- what holds of an event that was read whole: it is handed over with its rows, new names and bytes
 pub record Whole (document : List ℕ) (p : Place) (table : List ℕ) (is : Items) (count added : ℕ) : Type 0 where
   pub ended : Ended is
@@ -115,11 +123,24 @@ pub record Whole (document : List ℕ) (p : Place) (table : List ℕ) (is : Item
   pub document-small : length document ≤ maxStore
   pub table-small : length table ≤ maxTable
 
+abbrev pub WholeAt : List ℕ → ℕ → ℕ → List ℕ → Extent → Type 0
+WholeAt document at names table extent = Whole document (placeOf at names) table (itemsAt (placeOf at names) document table) (extent .rows) (extent .added)
+
 -- what is left of an event that was handed out: its rows that are taken, its kind, and the table with its names
 pub record Handed (document : List ℕ) (p : Place) (table table′ rows rows′ : List ℕ) (is : Items) (written : ℕ) (ws : List Words) (kind n : ℕ) : Type 0 where
   pub chose : Chose true (8 * written) ws rows rows′ n
   pub kind-is : kind ≡ Defined.kindOf is
   pub table-is : table′ ≡ sets table (2 * p .names) (pairs (p .at) (adds (p .names) is))
+
+abbrev pub HandedAt : Query → List ℕ → List ℕ → List ℕ → ℕ → ℕ → List ℕ → List ℕ → List ℕ → List ℕ → ℕ → Took → Type 0
+HandedAt q element name document at names table table′ rows rows′ written took =
+    Handed document (placeOf at names) table table′ rows rows′ (itemsAt (placeOf at names) document table) written (askedAt q element name document at names table) (took .kind) (took .rows)
+
+-- the turn over an event of so many bytes that was read whole
+abbrev pub passes : Query → List ℕ → List ℕ → List ℕ → Progress → ℕ → Turn
+passes q element name document g len =
+    let is = itemsAt (g .place) document (g .table) in
+    passing g (Defined.kindOf is) len (adds (g .place .names) is) (asked q element name document (g .place) (g .table) is)
 
 -- ---- the event at a place
 
@@ -153,6 +174,11 @@ uncountedOf g table rows Uncounted.Unsure = unsure (stays g table rows)
 -- the rows left are fewer than could be taken; where more were written than there are, it is 10 whatever is taken
 abbrev pub inDoubt : ℕ → ℕ → ℕ → Bool
 inDoubt room written most = cond (ltb room written) false (ltb room (written + most))
+
+-- the turn over an event that was read whole, where it is not in doubt
+abbrev pub surely : Query → List ℕ → List ℕ → List ℕ → Progress → Extent → Tried
+surely q element name document g extent =
+    cond (inDoubt (length (g .rows) / 8) (g .written) (mostOf q (extent .rows))) (unsure g) (turned (passes q element name document g (extent .len)))
 
 unfoldable pub uncountedBy : Query → List ℕ → List ℕ → List ℕ → Progress → Items → Outcome → Tried
 uncountedBy q element name document g is (complete n) =

@@ -16,9 +16,8 @@ ghost use Rattle.grammar.specs.Scan.{itemWords, adds, pairs};
 ghost use Rattle.slice_spec.specs.Queries.{named, isElement, kindOf};
 ghost use Rattle.scanner.specs.Answers.{itemOf};
 ghost use Rattle.scanner.specs.Keep.{ItemPlaced, Keepable};
-ghost use Rattle.slice_spec.specs.Slice.{itemsAt};
-ghost use Rattle.slice_spec.specs.Turns.{passing, turnOrRefuse};
-ghost use Rattle.scanner.specs.Select.{queryOf, asked, mostOf, Whole, Handed, progress, turnOf, turned, unsure, uncountedOf, inDoubt, uncounted, Sees, takesAll, takesOne, taken, chosen, rowsOf, Room, Chose};
+ghost use Rattle.slice_spec.specs.Turns.{turnOrRefuse};
+ghost use Rattle.scanner.specs.Select.{queryOf, mostOf, takesAll, takesOne, taken, chosen, rowsOf, Room, Chose, placeOf, askedAt, WholeAt, HandedAt, progress, turnOf, passes, Sees, uncountedOf, surely, uncounted};
 ghost use Rattle.scanner.specs.Turn.{attributesOf, eventOf};
 
 // What is asked for: attributes of a name, of elements of a name; or such elements with all their attributes.
@@ -280,8 +279,8 @@ fn count_by(
 ) -> usize
     requires { ⌜ 131_072 ≤ length (now own) ⌝ }
     requires { ⌜ now tokens ≡ builtIn ⌝ }
-    requires { ⌜ Whole (now document) (record { at = at; names = names }) (now table) (itemsAt (record { at = at; names = names }) (now document) (now table)) (extent .rows) (extent .added) ⌝ }
-    ensures { λ r. ⌜ r ≡ length (asked query (now (element .entry)) (now (name .entry)) (now (document .entry)) (record { at = at; names = names }) (now (table .entry)) (itemsAt (record { at = at; names = names }) (now (document .entry)) (now (table .entry)))) ⌝ }
+    requires { ⌜ WholeAt (now document) at names (now table) extent ⌝ }
+    ensures { λ r. ⌜ r ≡ length (askedAt query (now (element .entry)) (now (name .entry)) (now (document .entry)) at names (now (table .entry))) ⌝ }
 {
     let s = &document[at..];
     let pool = Pool {
@@ -322,8 +321,8 @@ fn count_taken(
     extent: Extent,
 ) -> usize
     requires { ⌜ now tokens ≡ builtIn ⌝ }
-    requires { ⌜ Whole (now document) (record { at = at; names = names }) (now table) (itemsAt (record { at = at; names = names }) (now document) (now table)) (extent .rows) (extent .added) ⌝ }
-    ensures { λ r. ⌜ r ≡ length (asked query (now (element .entry)) (now (name .entry)) (now (document .entry)) (record { at = at; names = names }) (now (table .entry)) (itemsAt (record { at = at; names = names }) (now (document .entry)) (now (table .entry)))) ⌝ }
+    requires { ⌜ WholeAt (now document) at names (now table) extent ⌝ }
+    ensures { λ r. ⌜ r ≡ length (askedAt query (now (element .entry)) (now (name .entry)) (now (document .entry)) at names (now (table .entry))) ⌝ }
 {
     if extent.added == 0 {
         let pool = Pool {
@@ -407,10 +406,10 @@ fn hand_out(
     extent: Extent,
 ) -> Took
     requires { ⌜ now tokens ≡ builtIn ⌝ }
-    requires { ⌜ Whole (now document) (record { at = at; names = names }) (now table) (itemsAt (record { at = at; names = names }) (now document) (now table)) (extent .rows) (extent .added) ⌝ }
+    requires { ⌜ WholeAt (now document) at names (now table) extent ⌝ }
     requires { ⌜ 2 * (names + extent .added) ≤ length (now table) ⌝ }
-    requires { ⌜ Room true (8 * written) (length (asked query (now element) (now name) (now document) (record { at = at; names = names }) (now table) (itemsAt (record { at = at; names = names }) (now document) (now table)))) (now rows) ⌝ }
-    ensures { λ r. ⌜ Handed (now (document .entry)) (record { at = at; names = names }) (now (table .entry)) (now (table .exit)) (now (rows .entry)) (now (rows .exit)) (itemsAt (record { at = at; names = names }) (now (document .entry)) (now (table .entry))) written (asked query (now (element .entry)) (now (name .entry)) (now (document .entry)) (record { at = at; names = names }) (now (table .entry)) (itemsAt (record { at = at; names = names }) (now (document .entry)) (now (table .entry)))) (r .kind) (r .rows) ⌝ }
+    requires { ⌜ Room true (8 * written) (length (askedAt query (now element) (now name) (now document) at names (now table))) (now rows) ⌝ }
+    ensures { λ r. ⌜ HandedAt query (now (element .entry)) (now (name .entry)) (now (document .entry)) at names (now (table .entry)) (now (table .exit)) (now (rows .entry)) (now (rows .exit)) written r ⌝ }
 {
     let s = &document[at..];
     let pool = Pool {
@@ -460,9 +459,9 @@ fn pick_fitting(
     extent: Extent,
 ) -> Picked
     requires { ⌜ now tokens ≡ builtIn ⌝ }
-    requires { ⌜ Whole (now document) (record { at = at; names = names }) (now table) (itemsAt (record { at = at; names = names }) (now document) (now table)) (extent .rows) (extent .added) ⌝ }
-    requires { ⌜ written + length (asked query (now element) (now name) (now document) (record { at = at; names = names }) (now table) (itemsAt (record { at = at; names = names }) (now document) (now table))) ≤ length (now rows) / 8 ⌝ }
-    ensures { λ r. ⌜ ((events : ℕ) → turnOf (progress at names (now (table .entry)) (now (rows .entry)) events written) (now (table .exit)) (now (rows .exit)) r ≡ passing (progress at names (now (table .entry)) (now (rows .entry)) events written) (kindOf (itemsAt (record { at = at; names = names }) (now (document .entry)) (now (table .entry)))) (extent .len) (adds names (itemsAt (record { at = at; names = names }) (now (document .entry)) (now (table .entry)))) (asked query (now (element .entry)) (now (name .entry)) (now (document .entry)) (record { at = at; names = names }) (now (table .entry)) (itemsAt (record { at = at; names = names }) (now (document .entry)) (now (table .entry))))) ⌝ }
+    requires { ⌜ WholeAt (now document) at names (now table) extent ⌝ }
+    requires { ⌜ written + length (askedAt query (now element) (now name) (now document) at names (now table)) ≤ length (now rows) / 8 ⌝ }
+    ensures { λ r. ⌜ ((events : ℕ) → turnOf (progress at names (now (table .entry)) (now (rows .entry)) events written) (now (table .exit)) (now (rows .exit)) r ≡ passes query (now (element .entry)) (now (name .entry)) (now (document .entry)) (progress at names (now (table .entry)) (now (rows .entry)) events written) (extent .len)) ⌝ }
 {
     if table.len() / 2 - names < extent.added {
         return Picked::Refused(Refusal::new(Refusal::POOL_FULL));
@@ -503,8 +502,8 @@ fn pick_surely(
     extent: Extent,
 ) -> Uncounted
     requires { ⌜ now tokens ≡ builtIn ⌝ }
-    requires { ⌜ Whole (now document) (record { at = at; names = names }) (now table) (itemsAt (record { at = at; names = names }) (now document) (now table)) (extent .rows) (extent .added) ⌝ }
-    ensures { λ r. ⌜ ((events : ℕ) → uncountedOf (progress at names (now (table .entry)) (now (rows .entry)) events written) (now (table .exit)) (now (rows .exit)) r ≡ cond (inDoubt (length (now (rows .entry)) / 8) written (mostOf query (extent .rows))) (unsure (progress at names (now (table .entry)) (now (rows .entry)) events written)) (turned (passing (progress at names (now (table .entry)) (now (rows .entry)) events written) (kindOf (itemsAt (record { at = at; names = names }) (now (document .entry)) (now (table .entry)))) (extent .len) (adds names (itemsAt (record { at = at; names = names }) (now (document .entry)) (now (table .entry)))) (asked query (now (element .entry)) (now (name .entry)) (now (document .entry)) (record { at = at; names = names }) (now (table .entry)) (itemsAt (record { at = at; names = names }) (now (document .entry)) (now (table .entry))))))) ⌝ }
+    requires { ⌜ WholeAt (now document) at names (now table) extent ⌝ }
+    ensures { λ r. ⌜ ((events : ℕ) → uncountedOf (progress at names (now (table .entry)) (now (rows .entry)) events written) (now (table .exit)) (now (rows .exit)) r ≡ surely query (now (element .entry)) (now (name .entry)) (now (document .entry)) (progress at names (now (table .entry)) (now (rows .entry)) events written) extent) ⌝ }
 {
     let room = rows.len() / 8;
     if room < written {
@@ -543,8 +542,8 @@ fn count_at_need(
     extent: Extent,
 ) -> usize
     requires { ⌜ now tokens ≡ builtIn ⌝ }
-    requires { ⌜ Whole (now document) (record { at = at; names = names }) (now table) (itemsAt (record { at = at; names = names }) (now document) (now table)) (extent .rows) (extent .added) ⌝ }
-    ensures { λ r. ⌜ ltb room (written + r) ≡ ltb room (written + length (asked query (now (element .entry)) (now (name .entry)) (now (document .entry)) (record { at = at; names = names }) (now (table .entry)) (itemsAt (record { at = at; names = names }) (now (document .entry)) (now (table .entry))))) ⌝ }
+    requires { ⌜ WholeAt (now document) at names (now table) extent ⌝ }
+    ensures { λ r. ⌜ ltb room (written + r) ≡ ltb room (written + length (askedAt query (now (element .entry)) (now (name .entry)) (now (document .entry)) at names (now (table .entry)))) ⌝ }
 {
     let most = most_taken(query, extent.rows);
     if is_short(room, written, most) {
@@ -578,8 +577,8 @@ fn pick_counted(
     extent: Extent,
 ) -> Picked
     requires { ⌜ now tokens ≡ builtIn ⌝ }
-    requires { ⌜ Whole (now document) (record { at = at; names = names }) (now table) (itemsAt (record { at = at; names = names }) (now document) (now table)) (extent .rows) (extent .added) ⌝ }
-    ensures { λ r. ⌜ ((events : ℕ) → turnOf (progress at names (now (table .entry)) (now (rows .entry)) events written) (now (table .exit)) (now (rows .exit)) r ≡ passing (progress at names (now (table .entry)) (now (rows .entry)) events written) (kindOf (itemsAt (record { at = at; names = names }) (now (document .entry)) (now (table .entry)))) (extent .len) (adds names (itemsAt (record { at = at; names = names }) (now (document .entry)) (now (table .entry)))) (asked query (now (element .entry)) (now (name .entry)) (now (document .entry)) (record { at = at; names = names }) (now (table .entry)) (itemsAt (record { at = at; names = names }) (now (document .entry)) (now (table .entry))))) ⌝ }
+    requires { ⌜ WholeAt (now document) at names (now table) extent ⌝ }
+    ensures { λ r. ⌜ ((events : ℕ) → turnOf (progress at names (now (table .entry)) (now (rows .entry)) events written) (now (table .exit)) (now (rows .exit)) r ≡ passes query (now (element .entry)) (now (name .entry)) (now (document .entry)) (progress at names (now (table .entry)) (now (rows .entry)) events written) (extent .len)) ⌝ }
 {
     let room = rows.len() / 8;
     let n = count_at_need(
@@ -617,7 +616,7 @@ fn pick_counted(
 
 fn see(document: &[u8], at: usize, names: usize, tokens: &[u16; 256], table: &[u32]) -> Seen
     requires { ⌜ now tokens ≡ builtIn ⌝ }
-    ensures { λ r. ⌜ Sees (now (document .entry)) (record { at = at; names = names }) (now (table .entry)) r ⌝ }
+    ensures { λ r. ⌜ Sees (now (document .entry)) (placeOf at names) (now (table .entry)) r ⌝ }
 {
     if slice_bounds::sizes_bad(document, table) {
         return Seen::Refused(Refusal::new(Refusal::BAD_SIZE));
