@@ -1,13 +1,12 @@
 -- Strings and blobs, by what their length field gave.
 use mathlib.Core.Bool.{true, false}
 use mathlib.Core.List.{List}
-use mathlib.Core.Path.{_≡_, refl, sym, _∙_}
+use mathlib.Core.Path.{_≡_, sym, _∙_}
 use Prim.Native.Nat.{ℕ, _+_, _-_, _≤_, _<_}
 use native.Mathlib.Omega.{arith}
 use borrow.Author.Tests.{ltb-false, lt-ltb, le-ltb}
 use lib.Dec.{ltb}
-use lib.ListN.{length, getD, take, drop}
-use Rattle.wire.specs.Header.{u32Of, u32At}
+use lib.ListN.{length, take, drop}
 use Rattle.wire.specs.Refusal.{stringShort, bytesShort, invalidUtf8}
 use Rattle.utf8.specs.Utf8.{wellFormed}
 use Rattle.grammar.specs.Reader.{got, short, refused}
@@ -66,16 +65,3 @@ module _ (s : List ℕ) (at : ℕ) where
     pub blob-good : v ≤ length s - n → blob s at ≡ got (record { start = n; len = v }) (n + v)
     unfolding raw
     blob-good h = blob-is ∙ rw (le-ltb _ _ h)
-
--- the low half of eight bytes, by their own places
-pub low-half : (s : List ℕ) (at : ℕ) → u32At s (at + 4) ≡ u32Of (getD s (at + 4) 0) (getD s (at + 5) 0) (getD s (at + 6) 0) (getD s (at + 7) 0)
-unfolding u32At
-low-half s at =
-    let e₁ : at + 4 + 1 ≡ at + 5 = omega arith in
-    let e₂ : at + 4 + 2 ≡ at + 6 = omega arith in
-    let e₃ : at + 4 + 3 ≡ at + 7 = omega arith in
-    rw (e₁, e₂, e₃)
-
-pub high-half : (s : List ℕ) (at : ℕ) → u32At s at ≡ u32Of (getD s at 0) (getD s (at + 1) 0) (getD s (at + 2) 0) (getD s (at + 3) 0)
-unfolding u32At
-high-half s at = refl
