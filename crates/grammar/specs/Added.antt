@@ -79,7 +79,7 @@ pub allIn-append : (l : ℕ) (a b : List Span) → AllIn l a → AllIn l b → A
 allIn-append l [] b p q = q
 allIn-append l (t ∷ a) b p q = (p .0, allIn-append l a b (p .1) q)
 
-addsRef-in : (l k j : ℕ) (r : Ref) → RefFits l j r → AllIn l (addsRef k r)
+pub addsRef-in : (l k j : ℕ) (r : Ref) → RefFits l j r → AllIn l (addsRef k r)
 unfolding addsRef
 addsRef-in l k j (new t) f = cond-by (λ ts. AllIn l ts) (ltb k most) (t ∷ []) [] (λ _. (f, tt)) (λ _. tt)
 addsRef-in l k j (known i) f = tt
@@ -98,7 +98,7 @@ addsValue-in l k j h (Value.interned r) f = addsRef-in l k j r (f .0)
 addsValue-in l k j h (Value.word w) f = tt
 addsValue-in l k j h (Value.pair a b) f = tt
 
-addsItem-in : (l k j : ℕ) (i : Item) → ItemFits l j i → AllIn l (addsItem k i)
+pub addsItem-in : (l k j : ℕ) (i : Item) → ItemFits l j i → AllIn l (addsItem k i)
 unfolding addsItem
 addsItem-in l k j i f =
     let a : List Span = addsName k (i .name) in

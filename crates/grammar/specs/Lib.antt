@@ -21,3 +21,6 @@ pub mod Fields
 pub mod Names
 pub mod Values
 pub mod Rows
+pub mod Attributes
+pub mod Trusted
+pub mod Again

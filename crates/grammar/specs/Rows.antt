@@ -2,14 +2,16 @@
 use mathlib.Core.Bool.{Bool}
 use mathlib.Core.Option.{Option, none, some}
 use mathlib.Core.List.{List, []}
-use mathlib.Core.Path.{_≡_, sym, ap, _∙_}
+use mathlib.Core.Path.{_≡_, refl, sym, ap, _∙_}
 use Prim.Native.Nat.{ℕ, _+_, _-_, _≤_, _<_}
 use native.Mathlib.Omega.{arith}
-use borrow.Author.Tests.{lt-ltb, le-ltb, le-leb, lt-leb, eq-eqb, ne-eqb}
+use borrow.Author.Tests.{ltb-true, ltb-false, eqb-true, eqb-false, lt-ltb, le-ltb, le-leb, lt-leb, eq-eqb, ne-eqb}
+use lib.Dec.{ltb, eqb}
 use lib.ListN.{length, getD}
 use Rattle.wire.specs.Token as Token
 use Rattle.wire.specs.Laws.{command-rule, type-rule}
 use Rattle.wire.specs.Refusal.{unexpectedEof, unknownCommand}
+use Rattle.grammar.specs.Choice.{byTest}
 use Rattle.grammar.specs.Reader.{Read, Reader, got, short, refused, _>>=_, next, give}
 use Rattle.grammar.specs.Grammar.{Span, Ref, Value, Item, byte, string, counted, name, value, attribute, first}
 use Rattle.grammar.specs.Laws.{good-name}
@@ -126,3 +128,46 @@ module _ (sound : ℕ → Bool) (names : ℕ) (s : List ℕ) where
       -- where the tag was read, its name was
       pub tag-name : kind < Token.text → Got (first sound names s 0) → Got (name sound names s 1)
       tag-name b g = first-got (name sound names) (λ r. give (record { kind = kind; name = some r; type = 0; value = Value.nothing })) s 1 (got-same (sym (first-tag b)) g)
+
+-- ---- where the event's own row was read, it has the token's command, and its value is no name
+
+abbrev pub Plain : Value → Type 0
+Plain Value.nothing = Unit {0}
+Plain Value.empty = Unit {0}
+Plain (Value.span t) = Unit {0}
+Plain (Value.interned r) = ⊥
+Plain (Value.word w) = Unit {0}
+Plain (Value.pair a b) = Unit {0}
+
+module _ (kind : ℕ) where
+  abbrev Fine : Read Item → Type 0
+  Fine (got i n) = (i .kind ≡ kind) × Plain (i .value)
+  Fine (short j) = Unit {0}
+  Fine (refused n d) = Unit {0}
+
+  tag-fine : (x : Read Ref) → Fine (asTag kind x)
+  tag-fine (got r n) = (refl, tt)
+  tag-fine (short j) = tt
+  tag-fine (refused n d) = tt
+
+  text-fine : (x : Read Span) → Fine (asTextRow kind x)
+  text-fine (got t n) = (refl, tt)
+  text-fine (short j) = tt
+  text-fine (refused n d) = tt
+
+module _ (S : ℕ → Bool) (names : ℕ) (s : List ℕ) (h : 0 < length s) (kind : ℕ) (k : kind ≡ Token.command (getD s 0 0)) where
+  first-fine : Fine kind (first S names s 0)
+  first-fine =
+      byTest (ltb kind Token.startTag) (λ a. rw (first-bare S names s h kind k (ltb-true _ _ a)) (refl, tt)) (λ a.
+      byTest (ltb kind Token.text) (λ b. rw (first-tag S names s h kind k (ltb-false _ _ a) (ltb-true _ _ b)) (tag-fine kind (name S names s 1))) (λ b.
+      byTest (ltb Token.docDecl kind) (λ c. rw (first-other S names s h kind k (ltb-false _ _ a) (ltb-false _ _ b) (ltb-true _ _ c)) tt) (λ c.
+      byTest (eqb (Token.type (getD s 0 0)) Token.string)
+      (λ d. rw (first-text S names s h kind k (ltb-false _ _ a) (ltb-false _ _ b) (ltb-false _ _ c) (eqb-true _ _ d)) (text-fine kind (string s 1)))
+      (λ d. rw (first-textless S names s h kind k (ltb-false _ _ a) (ltb-false _ _ b) (ltb-false _ _ c) (eqb-false _ _ d)) (refl, tt)))))
+
+  module _ (i : Item) (n : ℕ) (e : first S names s 0 ≡ got i n) where
+    pub first-kind : i .kind ≡ kind
+    first-kind = (rw e at first-fine) .0
+
+    pub first-plain : Plain (i .value)
+    first-plain = (rw e at first-fine) .1

@@ -55,6 +55,11 @@ unfolding copiedPairs lengths
 copied-append at [] b = rw add-zero
 copied-append at (t ∷ a) b = rw (copied-append (at + t .len) a b, add-assoc at (t .len) (lengths a))
 
+pub lengths-append : (a b : List Span) → lengths (a ++ b) ≡ lengths a + lengths b
+unfolding lengths
+lengths-append [] b = omega arith
+lengths-append (t ∷ a) b = omega (arith, lengths-append a b)
+
 pub joined-append : (s : List ℕ) (a b : List Span) → joined s (a ++ b) ≡ joined s a ++ joined s b
 unfolding joined
 joined-append s [] b = refl

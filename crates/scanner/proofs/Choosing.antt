@@ -1,345 +1,371 @@
--- The rows of an event that a query takes, one after another.
-use mathlib.Core.Bool.{Bool, true, false, _||_, cond}
+-- Rows that a query takes of an event, read one after another, and the new names that are kept on the way.
+use mathlib.Core.Bool.{Bool, true, false, _||_, _&&_, not, cond, true≢false}
 use mathlib.Core.List.{List, [], _∷_, _++_, append-nil, append-assoc}
 use mathlib.Core.Path.{_≡_, refl, sym, ap, _∙_}
-use Prim.Native.Nat.{ℕ, suc, _+_, _*_, _≤_, _<_}
-use native.Mathlib.Nat.{add-zero}
+use Prim.Native.Nat.{ℕ, _+_, _*_, _≤_, _<_}
 use native.Mathlib.Omega.{arith}
-use borrow.Author.Tests.{eq-eqb, ne-eqb, eqb-true}
-use lib.Dec.{eqb, leb}
-use lib.ListN.{length, take, length-append}
-use lib.Seq.{sets, length-sets, take-nil, drop-nil}
+use borrow.Author.Tests.{eqb-true, eqb-false, eq-eqb, ne-eqb}
+use lib.Dec.{leb, eqb}
+use lib.ListN.{length, getD, length-append}
+use lib.Seq.{sets, length-sets}
 use Rattle.wire.specs.Token as Token
-use Rattle.event.specs.Laws.{both}
-use Rattle.event.specs.Span.{part, span, text, same}
-use Rattle.event.specs.Row.{hasName, rowAt}
-use Rattle.grammar.specs.Reader.{Read, got}
-use Rattle.grammar.specs.Grammar.{Item, Items, item, whole, after, first, event, attribute}
-use Rattle.grammar.specs.Scan.{nameWords, itemWords}
-use Rattle.grammar.specs.Choice.{byTest, cond-by}
+use Rattle.wire.specs.Limits.{maxStore}
+use Rattle.grammar.specs.Choice.{byTest}
+use Rattle.grammar.specs.Grammar.{Span, Item, Items, item, whole, after, event}
+use Rattle.grammar.specs.Scan.{addsItem, adds, pairs, itemWords, count}
+use Rattle.grammar.specs.Added.{after-adds}
+use Rattle.grammar.specs.Stores.{sets-append, pairs-append, pairs-length}
 use Rattle.grammar.specs.Said.{item-length}
-use Rattle.grammar.specs.Laws.{ItemFits}
-use Rattle.grammar.specs.Stores.{sets-append}
-use Rattle.slice_spec.specs.Queries.{Words, named, isElement, concat, kindOf}
-use Rattle.scanner.specs.declared.fields.Pool.{Pool}
-use Rattle.scanner.specs.Keep.{PoolAfter, Keepable, ItemPlaced}
+use Rattle.grammar.specs.Rows.{first-kind}
 use Rattle.grammar.specs.Turn.{rest}
-use Rattle.scanner.specs.Turn.{soundOf, isAttribute}
-use Rattle.scanner.proofs.Attributes.{Turn, turn-end, turn-again, left-names, First, first-row, first-tag}
-use Rattle.scanner.proofs.Walk.{sound-next, room-after, keepable-next, item-placed}
+use Rattle.grammar.specs.Attributes.{isAttribute, turn-end, turn-row, attribute-before, own-before, own-row}
+use Rattle.grammar.specs.Trusted.{always}
+use Rattle.slice_spec.specs.Queries.{Words, named, isElement, concat, kindOf}
+use Rattle.scanner.specs.declared.fill.Ahead.{Ahead}
 use Rattle.scanner.specs.declared.select.Query.{Query}
-use Rattle.scanner.specs.Select.{takesAll, takesOne, rowsOf, taken, chosen, Room, Chose}
+use Rattle.scanner.specs.Fill.{ReadyAt, OneFilled, rowsFrom, othersFrom}
+use Rattle.scanner.specs.Select.{takesAll, takesOne, rowsOf, taken, chosen, grown, Room, Chose}
+use Rattle.scanner.proofs.Rowing.{item-later}
+use Rattle.scanner.proofs.Picking.{chose-none}
 
--- ---- a row's name
+-- ---- a row that was read: the names that are left to keep, and its words by the table that has them all
 
--- a span's bytes, where there is no second store
-empty-part : (a b : ℕ) → part [] a b ≡ []
-unfolding part
-empty-part a b = cond-by (λ (x : List ℕ). x ≡ []) (leb (a + b) 0) _ _ (λ _. ap (take b) (drop-nil a) ∙ take-nil b) (λ _. refl)
+module _ (base : ℕ) (s : List ℕ) (names : ℕ) (is : Items) (table table₁ row : List ℕ) (from : ℕ) (js : Items) (a : Ahead) (o : OneFilled base s names is table table₁ row from js a) where
+  abbrev names₁ : ℕ
+  names₁ = a .kept .names
 
-alone : (document : List ℕ) (s a b : ℕ) → span document [] s a b ≡ text document s a b
-unfolding span text
-alone document s a b =
-    byTest (eqb s 0) (λ e. rw e) (λ e. rw e (cond-by (λ (x : List ℕ). x ≡ []) (eqb s 1) _ _ (λ _. empty-part a b) (λ _. refl)))
+  adds-first : adds names is ≡ addsItem names (o .it) ++ adds names₁ js
+  unfolding adds
+  adds-first = ap (adds names) (o .all-is) ∙ ap (λ (n : ℕ). addsItem names (o .it) ++ adds n js) (sym (o .names-are))
 
-module _ (document name : List ℕ) (base : ℕ) (table : List ℕ) (i : Item) where
-  pub named-by : (b : Bool) (s a l : ℕ) → hasName (i .kind) ≡ true → s ∷ a ∷ l ∷ [] ≡ nameWords 0 base table (i .name)
-      → b ≡ same (text document s a l) name → b ≡ named document name (itemWords 0 base table i)
-  unfolding named rowAt itemWords
-  named-by b s a l h e f = f ∙ rw (h, ← e, alone document s a l)
+  as-many : length (adds names is) ≡ length (addsItem names (o .it)) + length (adds names₁ js)
+  as-many = ap length adds-first ∙ length-append (addsItem names (o .it)) (adds names₁ js)
 
-  same-empty : (b : Bool) (name : List ℕ) → b ≡ eqb (length name) 0 → b ≡ same [] name
-  unfolding same
-  same-empty b [] e = e
-  same-empty b (x ∷ xs) e = e ∙ ne-eqb (suc (length xs)) 0 (λ z. omega arith)
+  names-by : names₁ ≡ names + length (addsItem names (o .it))
+  names-by = o .names-are ∙ after-adds names (o .it)
 
-  pub unnamed-by : (b : Bool) → hasName (i .kind) ≡ false → b ≡ eqb (length name) 0 → b ≡ named document name (itemWords 0 base table i)
-  unfolding named rowAt itemWords
-  unnamed-by b h e = same-empty b name e ∙ rw h
+  pub row-grown : grown base names₁ table₁ js ≡ grown base names table is
+  row-grown =
+      let n : 2 * names₁ ≡ 2 * names + length (pairs base (addsItem names (o .it))) = omega (arith, names-by, pairs-length base (addsItem names (o .it))) in
+      ap (λ (t : List ℕ). sets t (2 * names₁) (pairs base (adds names₁ js))) (o .table-is)
+      ∙ ap (λ (m : ℕ). sets (sets table (2 * names) (pairs base (addsItem names (o .it)))) m (pairs base (adds names₁ js))) n
+      ∙ sym (sets-append table (2 * names) (pairs base (addsItem names (o .it))) (pairs base (adds names₁ js)))
+      ∙ ap (sets table (2 * names)) (sym (pairs-append base (addsItem names (o .it)) (adds names₁ js)))
+      ∙ ap (λ (ts : List Span). sets table (2 * names) (pairs base ts)) (sym adds-first)
 
-  pub element-by : (b : Bool) → i .kind ≡ Token.startTag → b ≡ named document name (itemWords 0 base table i) → b ≡ isElement document name (itemWords 0 base table i)
-  unfolding isElement itemWords
-  element-by b k e = e ∙ rw (eq-eqb (i .kind) Token.startTag k)
+  pub row-ready : ReadyAt base s names is table → ReadyAt base s names₁ js table₁
+  row-ready r = record {
+    ended = rw (o .all-is) at (r .ended);
+    in-store = r .in-store;
+    room = record {
+      pairs-fit = omega (arith, r .room .pairs-fit, names-by, as-many, ap length (o .table-is), length-sets table (2 * names) (pairs base (addsItem names (o .it))));
+      bytes-fit = λ c. absurd (true≢false (sym c));
+    };
+  }
 
-  pub element-not : (i .kind ≡ Token.startTag → ⊥) → false ≡ isElement document name (itemWords 0 base table i)
-  unfolding isElement itemWords
-  element-not k = rw (ne-eqb (i .kind) Token.startTag k)
+  pub row-still : (still : Bool) → (still ≡ true → length (adds names is) ≡ 0) → still ≡ true → length (adds names₁ js) ≡ 0
+  row-still still f e = omega (arith, f e, as-many)
 
--- ---- what is left after a row
+  row-words : itemWords 0 base (grown base names table is) (o .it) ≡ row
+  row-words =
+      ap (λ (t : List ℕ). itemWords 0 base t (o .it)) (sym row-grown)
+      ∙ item-later 0 base (length s) table₁ (pairs base (adds names₁ js)) names₁ names (o .it) (omega (arith, o .names-are)) (o .fits) ∙ sym (o .row-is)
 
-module _ (base : ℕ) (s table : List ℕ) (i : Item) (is : Items) (p : Pool) (k : Keepable base s (item i is) p table) where
-  row-placed : ItemFits (length s) (p .names) i → ItemPlaced base table i
-  row-placed f = item-placed base (length s) table (k .in-store) (p .names) i f (room-after base s table i is p k)
+  pub row-first : rowsOf base (grown base names table is) is ≡ row ∷ rowsOf base (grown base names table is) js
+  unfolding rowsOf
+  row-first = ap (rowsOf base (grown base names table is)) (o .all-is) ∙ ap (λ (w : Words). w ∷ rowsOf base (grown base names table is) js) row-words
 
-keepable-as : (base : ℕ) (s table : List ℕ) (p : Pool) (a b : Items) → a ≡ b → Keepable base s a p table → Keepable base s b p table
-keepable-as base s table p a b e k = rw (← e) k
+  pub row-eight : length row ≡ 8
+  row-eight = ap length (o .row-is) ∙ item-length 0 base table₁ (o .it)
 
--- ---- attributes that are taken
+  pub row-kind : getD row 0 0 ≡ kindOf is
+  unfolding itemWords kindOf
+  row-kind = ap (λ (w : Words). getD w 0 0) (o .row-is) ∙ sym (ap kindOf (o .all-is))
 
--- a row that is stored, or not
-pub put-long : (write : Bool) (rows : List ℕ) (to : ℕ) (w rows₁ : List ℕ) → rows₁ ≡ cond write (sets rows to w) rows → length rows₁ ≡ length rows
-put-long write rows to w rows₁ z = ap length z ∙ cond-by (λ (x : List ℕ). length x ≡ length rows) write _ _ (λ _. length-sets rows to w) (λ _. refl)
+-- a table that no name is added to
+pub none-grown : (base names : ℕ) (table : List ℕ) (is : Items) → length (adds names is) ≡ 0 → table ≡ grown base names table is
+unfolding pairs
+none-grown base names table is e = by (adds names is) e
+  where
+    by : (ts : List Span) → length ts ≡ 0 → table ≡ sets table (2 * names) (pairs base ts)
+    by [] z = refl
+    by (t ∷ ts) z = absurd (omega (arith, z))
 
-abbrev of : ℕ → List ℕ → List ℕ → List ℕ → Bool → Bool → Items → List Words
-of base table document name all one is = taken all one document name (rowsOf base table is)
+pub grown-long : (base names : ℕ) (table : List ℕ) (is : Items) → length (grown base names table is) ≡ length table
+grown-long base names table is = length-sets table (2 * names) (pairs base (adds names is))
 
--- what is left of these rows: so many are taken in the end, and they make the words R
-pub record Taking (base : ℕ) (s : List ℕ) (S : ℕ → Bool) (table document name : List ℕ) (all one write : Bool) (to N : ℕ) (R : List ℕ) (is : Items) (pool : Pool) (rows : List ℕ) (count : ℕ)
-    : Type 0 where
-  pub same-sound : soundOf pool table ≡ S
-  pub keepable : Keepable base s is pool table
-  pub room : write ≡ true → to + 8 * (count + length (of base table document name all one is)) ≤ length rows
-  pub count-to : count + length (of base table document name all one is) ≡ N
-  pub rows-to : cond write (sets rows (to + 8 * count) (concat (of base table document name all one is))) rows ≡ R
+-- ---- attributes
 
--- the rows from a place on that are taken, and the words with them
-abbrev pub takenFrom : ℕ → List ℕ → List ℕ → List ℕ → List ℕ → Bool → Bool → Pool → ℕ → List Words
-takenFrom base s table document name all one pool at = of base table document name all one (rest (soundOf pool table) s (pool .names) at)
+module _ (base : ℕ) (s document name : List ℕ) (all one still write : Bool) (to : ℕ) where
+  abbrev pub takes : Bool → List Words → List Words
+  takes looking ws = cond looking (taken all one document name ws) []
 
-module _ (base : ℕ) (s table document name : List ℕ) (all one write : Bool) (to : ℕ) (p : Pool) (at : ℕ) (rows : List ℕ) where
-  abbrev pub TakesTo : List ℕ
-  TakesTo = cond write (sets rows to (concat (takenFrom base s table document name all one p at))) rows
+  abbrev pub stored : ℕ → List Words → List ℕ → List ℕ
+  stored n ws rows = cond write (sets rows (to + 8 * n) (concat ws)) rows
 
-  pub takes-long : length TakesTo ≡ length rows
-  takes-long = put-long write rows to (concat (takenFrom base s table document name all one p at)) TakesTo refl
+  -- what is left to do leads to this table, so many rows, and these words
+  pub record Taking (final : List ℕ) (total : ℕ) (written : List ℕ) (names : ℕ) (is : Items) (looking : Bool) (n : ℕ) (table rows : List ℕ) : Type 0 where
+    pub ready : ReadyAt base s names is table
+    pub still-none : still ≡ true → length (adds names is) ≡ 0
+    pub grows : grown base names table is ≡ final
+    pub counts : n + length (takes looking (rowsOf base final is)) ≡ total
+    pub stores : stored n (takes looking (rowsOf base final is)) rows ≡ written
+    pub room : write ≡ true → to + 8 * total ≤ length rows
 
-  pub taking-start : Keepable base s (rest (soundOf p table) s (p .names) at) p table → Room write to (length (takenFrom base s table document name all one p at)) rows
-      → Taking base s (soundOf p table) table document name all one write to (length (takenFrom base s table document name all one p at)) TakesTo (rest (soundOf p table) s (p .names) at) p rows 0
-  taking-start k r =
-      let z : to + 8 * 0 ≡ to = omega arith in
-      record {
-        same-sound = refl;
-        keepable = k;
-        room = λ t. omega (arith, r .fits t);
-        count-to = omega arith;
-        rows-to = ap (λ (x : ℕ). cond write (sets rows x (concat (takenFrom base s table document name all one p at))) rows) z;
+  stored-long : (n : ℕ) (ws : List Words) (rows : List ℕ) → length (stored n ws rows) ≡ length rows
+  stored-long n ws rows = byTest write (λ e. rw e (length-sets rows (to + 8 * n) (concat ws))) (λ e. rw e)
+
+  stored-none : (n : ℕ) (rows : List ℕ) → stored n [] rows ≡ rows
+  unfolding concat
+  stored-none n rows = byTest write (λ e. rw e) (λ e. rw e)
+
+  -- a row that is taken, then others
+  stored-row : (n : ℕ) (w : Words) (ws : List Words) (rows : List ℕ) → length w ≡ 8 → stored (n + 1) ws (cond write (sets rows (to + 8 * n) w) rows) ≡ stored n (w ∷ ws) rows
+  unfolding concat
+  stored-row n w ws rows l =
+      let m : to + 8 * (n + 1) ≡ to + 8 * n + length w = omega (arith, l) in
+      byTest write (λ e. rw e (ap (λ (k : ℕ). sets (sets rows (to + 8 * n) w) k (concat ws)) m ∙ sym (sets-append rows (to + 8 * n) w (concat ws)))) (λ e. rw e)
+
+  module _ (names : ℕ) (is : Items) (look : Bool) (table rows : List ℕ) where
+    abbrev pub askedOf : List Words
+    askedOf = takes look (rowsOf base (grown base names table is) is)
+
+    pub taking-start : ReadyAt base s names is table → (still ≡ true → length (adds names is) ≡ 0) → Room write to (length askedOf) rows
+        → Taking (grown base names table is) (length askedOf) (stored 0 askedOf rows) names is look 0 table rows
+    taking-start r f m = record { ready = r; still-none = f; grows = refl; counts = omega arith; stores = refl; room = m .fits }
+
+    pub asked-long : length (stored 0 askedOf rows) ≡ length rows
+    asked-long = stored-long 0 askedOf rows
+
+    pub taken-is : (table₁ rows₁ : List ℕ) (n : ℕ) → n ≡ length askedOf → rows₁ ≡ stored 0 askedOf rows → Chose write to askedOf rows rows₁ n
+    taken-is table₁ rows₁ n e f =
+        let m : to + 8 * 0 ≡ to = omega arith in
+        record { counted = e; rows-are = f ∙ ap (λ (k : ℕ). cond write (sets rows k (concat askedOf)) rows) m }
+
+  module _ (final : List ℕ) (total : ℕ) (written : List ℕ) (names : ℕ) (is : Items) (looking : Bool) (n : ℕ) (table rows : List ℕ) (g : Taking final total written names is looking n table rows) where
+    pub taking-long : length rows ≡ length written
+    taking-long = sym (ap length (sym (g .stores)) ∙ stored-long n (takes looking (rowsOf base final is)) rows)
+
+    pub taking-few : n ≤ total
+    taking-few = omega (arith, g .counts)
+
+    -- nothing is left
+    taking-over : takes looking (rowsOf base final is) ≡ [] → length (adds names is) ≡ 0 → (n ≡ total) × (rows ≡ written) × (table ≡ final)
+    taking-over e f = (
+      omega (arith, g .counts, ap length e),
+      sym (stored-none n rows) ∙ ap (λ (ws : List Words). stored n ws rows) (sym e) ∙ g .stores,
+      none-grown base names table is f ∙ g .grows,
+    )
+
+    pub taking-done : (not looking && still) ≡ true → (n ≡ total) × (rows ≡ written) × (table ≡ final)
+    taking-done e =
+        byTest looking (λ l. absurd (true≢false (sym (rw l at e))))
+        (λ l. taking-over (rw l) (g .still-none (rw l at e)))
+
+    pub taking-end : (d : ℕ) (e : Bool) → is ≡ whole d e → (n ≡ total) × (rows ≡ written) × (table ≡ final)
+    unfolding rowsOf taken adds
+    taking-end d e h =
+        taking-over (ap (λ (js : Items). takes looking (rowsOf base final js)) h ∙ byTest looking (λ l. rw l) (λ l. rw l)) (ap (λ (js : Items). length (adds names js)) h)
+
+    -- a row was read
+    module _ (table₁ row : List ℕ) (from : ℕ) (js : Items) (a : Ahead) (o : OneFilled base s names is table table₁ row from js a) where
+      abbrev after-it : List Words
+      after-it = rowsOf base final js
+
+      rows-are : rowsOf base final is ≡ row ∷ after-it
+      rows-are =
+          let z = row-first base s names is table table₁ row from js a o in
+          rw (← g .grows) z
+
+      abbrev wanted : Bool
+      wanted = looking && (all || named document name row)
+
+      skips : wanted ≡ false → takes looking (row ∷ after-it) ≡ takes looking after-it
+      unfolding taken
+      skips e = byTest looking (λ l. rw l (let z = rw l at e in rw z)) (λ l. rw l)
+
+      picks : wanted ≡ true → takes looking (row ∷ after-it) ≡ row ∷ takes (not one) after-it
+      unfolding taken
+      picks e =
+          byTest looking (λ l. rw l (let z = rw l at e in rw z (byTest one (λ u. rw u) (λ u. rw u)))) (λ l. absurd (true≢false (sym (rw l at e))))
+
+      next : (looking₁ : Bool) (n₁ : ℕ) (rows₁ : List ℕ) → length rows₁ ≡ length rows → n₁ + length (takes looking₁ after-it) ≡ total → stored n₁ (takes looking₁ after-it) rows₁ ≡ written
+          → Taking final total written (a .kept .names) js looking₁ n₁ table₁ rows₁
+      next looking₁ n₁ rows₁ l c d = record {
+        ready = row-ready base s names is table table₁ row from js a o (g .ready);
+        still-none = row-still base s names is table table₁ row from js a o still (g .still-none);
+        grows = row-grown base s names is table table₁ row from js a o ∙ g .grows;
+        counts = c;
+        stores = d;
+        room = λ e. omega (arith, g .room e, l);
       }
 
-module _ {base : ℕ} {s : List ℕ} {S : ℕ → Bool} {table document name : List ℕ} {all one write : Bool} {to N : ℕ} {R : List ℕ} where
-  pub taking-done : {n : ℕ} {e : Bool} {p : Pool} {rows : List ℕ} {count : ℕ} → Taking base s S table document name all one write to N R (whole n e) p rows count → (count ≡ N) × (rows ≡ R)
-  unfolding rowsOf taken concat
-  taking-done {n} {e} {p} {rows} {count} g =
-      (sym (add-zero count) ∙ g .count-to, cond-by (λ (x : List ℕ). x ≡ R → rows ≡ R) write _ _ (λ _ z. z) (λ _ z. z) (g .rows-to))
+      pub taking-skip : wanted ≡ false → Taking final total written (a .kept .names) js looking n table₁ rows
+      taking-skip e =
+          let z : takes looking (rowsOf base final is) ≡ takes looking after-it = ap (takes looking) rows-are ∙ skips e in
+          next looking n rows refl (rw (← z) (g .counts)) (rw (← z) (g .stores))
 
-  module _ {i : Item} {is : Items} {p : Pool} {rows : List ℕ} {count : ℕ} (g : Taking base s S table document name all one write to N R (item i is) p rows count)
-      (f : ItemFits (length s) (p .names) i) where
-    pub taking-placed : ItemPlaced base table i
-    taking-placed = row-placed base s table i is p (g .keepable) f
+      module _ (e : wanted ≡ true) where
+        picked-is : takes looking (rowsOf base final is) ≡ row ∷ takes (not one) after-it
+        picked-is = ap (takes looking) rows-are ∙ picks e
 
-    abbrev w : Words
-    w = itemWords 0 base table i
+        pub taking-room : write ≡ true → to + 8 * n + 8 ≤ length rows
+        taking-room f = omega (arith, g .room f, g .counts, ap length picked-is)
 
-    abbrev these : List Words
-    these = of base table document name all one (item i is)
+        pub taking-more : (rows₁ : List ℕ) → rows₁ ≡ cond write (sets rows (to + 8 * n) row) rows → Taking final total written (a .kept .names) js (not one) (n + 1) table₁ rows₁
+        taking-more rows₁ d =
+            let l : length (cond write (sets rows (to + 8 * n) row) rows) ≡ length rows = byTest write (λ w. rw w (length-sets rows (to + 8 * n) row)) (λ w. rw w) in
+            next (not one) (n + 1) rows₁ (ap length d ∙ l) (omega (arith, g .counts, ap length picked-is))
+            (ap (stored (n + 1) (takes (not one) after-it)) d ∙ stored-row n row (takes (not one) after-it) rows (row-eight base s names is table table₁ row from js a o)
+            ∙ ap (λ (ws : List Words). stored n ws rows) (sym picked-is) ∙ g .stores)
 
-    abbrev later : List Words
-    later = of base table document name all one is
+-- attributes at a place after the event's first byte
+module _ (s : List ℕ) (names at : ℕ) (p : 0 < at) where
+  rest-here : rowsFrom names s at ≡ rest always s names at
+  rest-here = let e : eqb at 0 ≡ false = ne-eqb at 0 (λ z. omega (arith, z)) in rw e
 
-    pub taking-room : (all || named document name w) ≡ true → write ≡ true → (to + 8 * count) + 8 ≤ length rows
-    unfolding rowsOf taken
-    taking-room h e = omega (arith, g .room e, few)
-      where
-        few : 1 ≤ length these
-        few = rw h (omega arith)
+  pub one-asks : (base : ℕ) (table : List ℕ) → ReadyAt base s names (rest always s names at) table → isAttribute s at ≡ true
+      → ReadyAt base s names (rowsFrom names s at) table × (0 < count (rowsFrom names s at))
+  unfolding count
+  one-asks base table r b =
+      let g = attribute-before always s names at (r .ended) b in
+      let t = turn-row (λ is. rest always s names at ≡ is) always s names at refl b (g .it) (g .place) (g .is) in
+      let c : 0 < count (rest always s names at) = rw (t .left) (omega arith) in
+      (rw rest-here r, rw rest-here c)
 
-    module _ (q : Pool) (a : PoolAfter (after (p .names) i) p q) where
-      sound-stays : soundOf q table ≡ S
-      sound-stays = sound-next table _ p q a ∙ g .same-sound
+  pub one-here : (base : ℕ) (table table₁ row : List ℕ) (a : Ahead) → OneFilled base s names (rowsFrom names s at) table table₁ row at (othersFrom s at a) a
+      → OneFilled base s names (rest always s names at) table table₁ row at (rest always s (a .kept .names) (a .next)) a
+  one-here base table table₁ row a o =
+      let e : eqb at 0 ≡ false = ne-eqb at 0 (λ z. omega (arith, z)) in
+      rw e at o
 
-      keepable-on : Keepable base s is q table
-      keepable-on = keepable-next base s table i is p (g .keepable) q table refl a
+  pub none-here : isAttribute s at ≡ false → rest always s names at ≡ whole at (leb (length s) at)
+  none-here b = turn-end (λ is. rest always s names at ≡ is) always s names at refl b
 
-      pub taking-skip : (all || named document name w) ≡ false → Taking base s S table document name all one write to N R is q rows count
-      unfolding rowsOf taken
-      taking-skip h =
-          let e : these ≡ later = rw h in
-          record {
-            same-sound = sound-stays;
-            keepable = keepable-on;
-            room = λ t. rw (← e) (g .room t);
-            count-to = rw (← e) (g .count-to);
-            rows-to = rw (← e) (g .rows-to);
-          }
+-- ---- the event's own row, then its attributes
 
-      module _ (h : (all || named document name w) ≡ true) (rows₁ : List ℕ) (z : rows₁ ≡ cond write (sets rows (to + 8 * count) w) rows) where
-        long : length rows₁ ≡ length rows
-        long = put-long write rows (to + 8 * count) w rows₁ z
-
-        pub taking-more : one ≡ false → Taking base s S table document name all one write to N R is q rows₁ (count + 1)
-        unfolding rowsOf taken concat
-        taking-more o =
-            let e : these ≡ w ∷ later = rw (h, o) in
-            let l : length these ≡ suc (length later) = ap length e in
-            record {
-              same-sound = sound-stays;
-              keepable = keepable-on;
-              room = λ t. omega (arith, g .room t, long);
-              count-to = omega (arith, g .count-to);
-              rows-to = byTest write (λ t. wrote e t) (λ t. kept t);
-            }
-          where
-            wrote : these ≡ w ∷ later → write ≡ true → cond write (sets rows₁ (to + 8 * (count + 1)) (concat later)) rows₁ ≡ R
-            wrote e t =
-                let n : to + 8 * (count + 1) ≡ (to + 8 * count) + length w = omega (arith, item-length 0 base table i) in
-                let z′ : rows₁ ≡ sets rows (to + 8 * count) w = z ∙ rw t in
-                rw (t, n, z′, ← sets-append rows (to + 8 * count) w (concat later)) (rw (t, e) at (g .rows-to))
-
-            kept : write ≡ false → cond write (sets rows₁ (to + 8 * (count + 1)) (concat later)) rows₁ ≡ R
-            kept t = rw t (z ∙ rw t (rw t at (g .rows-to)))
-
-        pub taking-one : one ≡ true → (count + 1 ≡ N) × (rows₁ ≡ R)
-        unfolding rowsOf taken concat
-        taking-one o =
-            let e : these ≡ w ∷ [] = rw (h, o) in
-            let l : length these ≡ 1 = ap length e in
-            (omega (arith, g .count-to), byTest write (λ t. wrote e t) (λ t. kept t))
-          where
-            wrote : these ≡ w ∷ [] → write ≡ true → rows₁ ≡ R
-            wrote e t = z ∙ rw t (rw (t, e, append-nil w) at (g .rows-to))
-
-            kept : write ≡ false → rows₁ ≡ R
-            kept t = z ∙ rw t (rw t at (g .rows-to))
-
-  pub taking-long : {is : Items} {p : Pool} {rows : List ℕ} {count : ℕ} → Taking base s S table document name all one write to N R is p rows count → length rows ≡ length R
-  taking-long {is} {p} {rows} {count} g =
-      sym (put-long write rows (to + 8 * count) (concat (of base table document name all one is)) _ refl) ∙ ap length (g .rows-to)
-
-  -- an attribute's row
-  pub taking-next : (n m : ℕ) (q : Pool) {rows : List ℕ} {count : ℕ} → q .names ≡ m → Taking base s S table document name all one write to N R (rest S s m n) q rows count
-      → Taking base s S table document name all one write to N R (rest S s (q .names) n) q rows count
-  taking-next n m q {rows} {count} e g = left-names (λ is. Taking base s S table document name all one write to N R is q rows count) S s n m (q .names) e g
-
-  -- at a place: nothing is left, or an attribute is, which was read before
-  module _ {p : Pool} {rows : List ℕ} {count : ℕ} (at : ℕ) (g : Taking base s S table document name all one write to N R (rest S s (p .names) at) p rows count) where
-    pub taking-end : isAttribute s at ≡ false → (count ≡ N) × (rows ≡ R)
-    taking-end b = taking-done (turn-end (λ is. Taking base s S table document name all one write to N R is p rows count) S s (p .names) at g b)
-
-    pub taking-turn : isAttribute s at ≡ true → (x : Read Item) → x ≡ attribute (soundOf p table) (p .names) s at → (i : Item) (n : ℕ) → x ≡ got i n
-        → Turn (λ is. Taking base s S table document name all one write to N R is p rows count) S s (p .names) at i n
-    taking-turn = turn-again S at (g .same-sound) (g .keepable) (λ is. Taking base s S table document name all one write to N R is p rows count) g
-
--- ---- an event's own row, then its attributes
-
-concat-append : (a b : List Words) → concat (a ++ b) ≡ concat a ++ concat b
+concat-append : (ws vs : List Words) → concat (ws ++ vs) ≡ concat ws ++ concat vs
 unfolding concat
-concat-append [] b = refl
-concat-append (w ∷ a) b = ap (λ (x : List ℕ). w ++ x) (concat-append a b) ∙ sym (append-assoc w (concat a) (concat b))
+concat-append [] vs = refl
+concat-append (w ∷ ws) vs = ap (λ (x : List ℕ). w ++ x) (concat-append ws vs) ∙ sym (append-assoc w (concat ws) (concat vs))
 
-pub chose-both : (write : Bool) (to : ℕ) (a b : List Words) (rows rows₁ rows₂ : List ℕ) (n m : ℕ) → length (concat a) ≡ 8 * length a → Chose write to a rows rows₁ n
-    → Chose write (to + 8 * n) b rows₁ rows₂ m → Chose write to (a ++ b) rows rows₂ (n + m)
-chose-both write to a b rows rows₁ rows₂ n m l x y = record {
-  counted = omega (arith, x .counted, y .counted, length-append a b);
-  rows-are = byTest write wrote kept;
+chose-both : (write : Bool) (to : ℕ) (ws vs : List Words) (rows rows₁ rows₂ : List ℕ) (n m : ℕ) → length (concat ws) ≡ 8 * length ws
+    → Chose write to ws rows rows₁ n → Chose write (to + 8 * n) vs rows₁ rows₂ m → Chose write to (ws ++ vs) rows rows₂ (n + m)
+chose-both write to ws vs rows rows₁ rows₂ n m l x y = record {
+  counted = omega (arith, x .counted, y .counted, length-append ws vs);
+  rows-are = byTest write (λ e. on e) (λ e. rw e (y .rows-are ∙ rw e (x .rows-are ∙ rw e)));
 }
   where
-    wrote : write ≡ true → rows₂ ≡ cond write (sets rows to (concat (a ++ b))) rows
-    wrote t =
-        let e : to + 8 * n ≡ to + length (concat a) = omega (arith, x .counted) in
-        let z : rows₁ ≡ sets rows to (concat a) = x .rows-are ∙ rw t in
-        let u : rows₂ ≡ sets rows₁ (to + 8 * n) (concat b) = y .rows-are ∙ rw t in
-        u ∙ rw (t, z, e, concat-append a b, sets-append rows to (concat a) (concat b))
+    on : write ≡ true → rows₂ ≡ cond write (sets rows to (concat (ws ++ vs))) rows
+    on e =
+        let k : to + 8 * n ≡ to + length (concat ws) = omega (arith, l, x .counted) in
+        let u : rows₁ ≡ sets rows to (concat ws) = x .rows-are ∙ rw e in
+        rw (e, concat-append ws vs, sets-append rows to (concat ws) (concat vs)) (y .rows-are ∙ rw (e, u, k))
 
-    kept : write ≡ false → rows₂ ≡ cond write (sets rows to (concat (a ++ b))) rows
-    kept t =
-        let z : rows₁ ≡ rows = x .rows-are ∙ rw t in
-        let u : rows₂ ≡ rows₁ = y .rows-are ∙ rw t in
-        u ∙ z ∙ rw t
+module _ (base : ℕ) (s : List ℕ) (names : ℕ) (table table₁ row : List ℕ) (a : Ahead) (r : ReadyAt base s names (event always names s) table)
+    (o : OneFilled base s names (event always names s) table table₁ row 0 (othersFrom s 0 a) a) where
+  abbrev is : Items
+  is = event always names s
 
--- the row alone, where it is taken
-pub chose-first : (write : Bool) (to : ℕ) (w rows rows₁ : List ℕ) → rows₁ ≡ cond write (sets rows to w) rows → Chose write to (w ∷ []) rows rows₁ 1
-unfolding concat
-chose-first write to w rows rows₁ e = record { counted = refl; rows-are = e ∙ rw (append-nil w) }
+  kind-is : getD row 0 0 ≡ Token.command (getD s 0 0)
+  unfolding kindOf
+  kind-is =
+      let g = own-before always s names (r .ended) in
+      let w = own-row (λ js. event always names s ≡ js) always s names refl (g .it) (g .place) (g .is) in
+      let e : item (g .it) (w .others) ≡ item (o .it) (othersFrom s 0 a) = sym (w .left) ∙ o .all-is in
+      let i : g .it ≡ o .it = cc e in
+      row-kind base s names is table table₁ row 0 _ a o ∙ ap kindOf (o .all-is) ∙ ap (λ (x : Item). x .kind) (sym i)
+      ∙ first-kind always names s (omega (arith, w .moves, w .within)) _ refl (g .it) (g .place) (g .is)
 
-pub chose-none : (write : Bool) (to : ℕ) (rows : List ℕ) → Chose write to [] rows rows 0
-unfolding concat
-chose-none write to rows = record { counted = refl; rows-are = cond-by (λ (x : List ℕ). rows ≡ x) write _ _ (λ _. refl) (λ _. refl) }
+  pub event-kind : getD row 0 0 ≡ kindOf is
+  event-kind = row-kind base s names is table table₁ row 0 _ a o
 
-module _ (q : Query) (document element name : List ℕ) (base : ℕ) (s : List ℕ) (table : List ℕ) (p : Pool) (k : Keepable base s (event (soundOf p table) (p .names) s) p table) where
-  abbrev S : ℕ → Bool
-  S = soundOf p table
+  -- no start tag
+  module _ (z : getD row 0 0 ≡ Token.startTag → ⊥) where
+    single : othersFrom s 0 a ≡ whole (a .next) false
+    single = let e : eqb (Token.command (getD s 0 0)) Token.startTag ≡ false = ne-eqb _ _ (λ x. z (kind-is ∙ x)) in rw e
 
-  abbrev whole-event : Items
-  whole-event = event S (p .names) s
+    pub single-grown : table₁ ≡ grown base names table is
+    unfolding adds
+    single-grown =
+        none-grown base (a .kept .names) table₁ (othersFrom s 0 a) (ap (λ (js : Items). length (adds (a .kept .names) js)) single)
+        ∙ row-grown base s names is table table₁ row 0 _ a o
 
-  abbrev all-chosen : List Words
-  all-chosen = chosen q document element name (rowsOf base table whole-event)
+    pub single-chosen : (q : Query) (document element name rows : List ℕ) (write : Bool) (to : ℕ)
+        → Chose write to (chosen q document element name (rowsOf base (grown base names table is) is)) rows rows 0
+    unfolding chosen isElement
+    single-chosen q document element name rows write to =
+        let e : chosen q document element name (rowsOf base (grown base names table is) is) ≡ [] =
+        ap (chosen q document element name) (row-first base s names is table table₁ row 0 _ a o) ∙ rw (ne-eqb (getD row 0 0) Token.startTag z) in
+        rw e (chose-none write to rows)
 
-  module _ (i : Item) (n : ℕ) (e : first S (p .names) s 0 ≡ got i n) where
-    abbrev row : Words
-    row = itemWords 0 base table i
+  -- a start tag
+  module _ (z : getD row 0 0 ≡ Token.startTag) where
+    tag-row : OneFilled base s names is table table₁ row 0 (rest always s (a .kept .names) (a .next)) a
+    tag-row = let e : eqb (Token.command (getD s 0 0)) Token.startTag ≡ true = eq-eqb _ _ (sym kind-is ∙ z) in rw e at o
 
-    abbrev own : List Words
-    own = cond (takesAll q) (row ∷ []) []
+    abbrev js : Items
+    js = rest always s (a .kept .names) (a .next)
 
-    abbrev others : List Words
-    others = taken (takesAll q) (takesOne q) document name (rowsOf base table (rest S s (after (p .names) i) n))
+    pub tag-ready : ((0 < a .next) × (a .next ≤ length s)) × ReadyAt base s (a .kept .names) js table₁
+    tag-ready = ((o .moves, o .within), row-ready base s names is table table₁ row 0 js a tag-row r)
 
-    by-row : First (λ is. whole-event ≡ is) s (p .names) i n
-    by-row = first-row (λ is. whole-event ≡ is) S s (p .names) refl i n e
+    pub tag-still : (still : Bool) → (still ≡ true → length (adds names is) ≡ 0) → still ≡ true → length (adds (a .kept .names) js) ≡ 0
+    tag-still still f e = row-still base s names is table table₁ row 0 js a tag-row still f e
 
-    by-tag : i .kind ≡ Token.startTag → whole-event ≡ item i (rest S s (after (p .names) i) n)
-    by-tag = first-tag (λ is. whole-event ≡ is) S s (p .names) refl i n e
+    pub tag-eight : length row ≡ 8
+    tag-eight = row-eight base s names is table table₁ row 0 js a tag-row
 
-    pub first-placed : ItemPlaced base table i
-    first-placed = row-placed base s table i _ p (rw (by-row .left) at k) (by-row .fits)
+    pub tag-grown : (table₂ : List ℕ) → table₂ ≡ grown base (a .kept .names) table₁ js → table₂ ≡ grown base names table is
+    tag-grown table₂ e = e ∙ row-grown base s names is table table₁ row 0 js a tag-row
 
-    pub kind-is : i .kind ≡ kindOf whole-event
-    unfolding kindOf
-    kind-is = rw (by-row .left)
+    module _ (q : Query) (document element name : List ℕ) (look all one own : Bool) (el : look ≡ isElement document element row) (al : all ≡ takesAll q) (on : one ≡ takesOne q)
+        (ow : own ≡ (look && all)) where
+      abbrev its : List Words
+      its = cond own (row ∷ []) []
 
-    pub chosen-none : isElement document element row ≡ false → all-chosen ≡ []
-    unfolding rowsOf chosen
-    chosen-none h = rw (by-row .left, h)
+      abbrev others : List Words
+      others = cond look (taken all one document name (rowsOf base (grown base (a .kept .names) table₁ js) js)) []
 
-    module _ (h : isElement document element row ≡ true) where
-      tag : i .kind ≡ Token.startTag
-      unfolding isElement itemWords
-      tag = eqb-true _ _ (both (eqb (i .kind) Token.startTag) _ h .0)
+      abbrev Asked : List Words
+      Asked = chosen q document element name (rowsOf base (grown base names table is) is)
 
-      pub chosen-is : all-chosen ≡ own ++ others
-      unfolding rowsOf chosen
-      chosen-is = rw (by-tag tag, h)
+      parts : Asked ≡ its ++ others
+      unfolding chosen
+      parts =
+          ap (chosen q document element name) (row-first base s names is table table₁ row 0 js a tag-row)
+          ∙ rw (← el, ← al, ← on, ow, row-grown base s names is table table₁ row 0 js a tag-row) (byTest look (λ l. rw l) (λ l. rw l))
 
-      pub rest-keepable : (q′ : Pool) → PoolAfter (after (p .names) i) p q′ → Keepable base s (rest (soundOf q′ table) s (q′ .names) n) q′ table
-      rest-keepable q′ a =
-          let z : soundOf q′ table ≡ S = sound-next table _ p q′ a in
-          let g : Keepable base s (rest S s (after (p .names) i) n) q′ table = keepable-next base s table i _ p (rw (by-tag tag) at k) q′ table refl a in
-          keepable-as base s table q′ _ _ (ap (λ (x : ℕ → Bool). rest x s (after (p .names) i) n) (sym z) ∙ ap (λ (x : ℕ). rest (soundOf q′ table) s x n) (sym (a .names-are))) g
-
-      pub others-are : (q′ : Pool) → PoolAfter (after (p .names) i) p q′ → (all one : Bool) → all ≡ takesAll q → one ≡ takesOne q
-          → taken all one document name (rowsOf base table (rest (soundOf q′ table) s (q′ .names) n)) ≡ others
-      others-are q′ a all one f g =
-          let z : soundOf q′ table ≡ S = sound-next table _ p q′ a in
-          rw (z, a .names-are, f, g)
-
-      pub own-eight : length (concat own) ≡ 8 * length own
+      its-eight : length (concat its) ≡ 8 * length its
       unfolding concat
-      own-eight = cond-by (λ (x : List Words). length (concat x) ≡ 8 * length x) (takesAll q) _ _ (λ _. ap length (append-nil row) ∙ item-length 0 base table i) (λ _. refl)
+      its-eight = byTest own (λ e. rw e (ap length (append-nil row) ∙ tag-eight)) (λ e. rw e)
 
-      -- where rows are written, there is room for the tag's row and for the others
-      module _ (write : Bool) (to : ℕ) (rows : List ℕ) (r : Room write to (length all-chosen) rows) where
-        together : length all-chosen ≡ length own + length others
-        together = ap length chosen-is ∙ length-append own others
+      its-few : length its ≤ 1
+      its-few = byTest own (λ e. rw e (omega arith)) (λ e. rw e (omega arith))
 
-        pub first-room : takesAll q ≡ true → write ≡ true → to + 8 ≤ length rows
-        first-room t u = let l : length own ≡ 1 = rw t in omega (arith, r .fits u, together)
+      both-long : length Asked ≡ length its + length others
+      both-long = ap length parts ∙ length-append its others
 
-        own-few : length own ≤ 1
-        own-few = cond-by (λ (x : List Words). length x ≤ 1) (takesAll q) _ _ (λ _. omega arith) (λ _. omega arith)
+      module _ (write : Bool) (to : ℕ) (rows : List ℕ) (m : Room write to (length Asked) rows) where
+        pub own-fits : own ≡ true → write ≡ true → to + 8 ≤ length rows
+        own-fits e f = let l : length its ≡ 1 = rw e in omega (arith, m .fits f, both-long, l)
 
-        pub first-few : (first : ℕ) (rows₁ : List ℕ) → Chose write to own rows rows₁ first → first ≤ 1
-        first-few first rows₁ c = omega (arith, c .counted, own-few)
+        module _ (rows₁ : List ℕ) (n : ℕ) (x : Chose write to its rows rows₁ n) (nought : write ≡ false → to ≡ 0) where
+          same-long : length rows₁ ≡ length rows
+          same-long = ap length (x .rows-are) ∙ byTest write (λ e. rw e (length-sets rows to (concat its))) (λ e. rw e)
 
-        pub rest-fits : (first : ℕ) (rows₁ : List ℕ) → Chose write to own rows rows₁ first → (write ≡ false → to ≡ 0) → to + 8 * first < 18_446_744_073_709_551_616
-        rest-fits first rows₁ c zero-to =
-            byTest write (λ t. omega (arith, r .fits t, r .sized, together, c .counted)) (λ t. omega (arith, zero-to t, c .counted, own-few))
+          pub own-few : n ≤ 1
+          own-few = omega (arith, x .counted, its-few)
 
-        pub rest-room : (first : ℕ) (rows₁ : List ℕ) → Chose write to own rows rows₁ first → (write ≡ false → to ≡ 0) → (n : ℕ) → n ≡ length others
-            → Room write (to + 8 * first) n rows₁
-        rest-room first rows₁ c zero-to n m =
-            let l : length rows₁ ≡ length rows = put-long write rows to (concat own) rows₁ (c .rows-are) in
-            record {
-              fits = λ t. omega (arith, r .fits t, together, c .counted);
-              sized = omega (arith, r .sized);
-              counts = λ t. omega (arith, zero-to t, c .counted, own-few);
-            }
+          pub others-from : to + 8 * n < 18_446_744_073_709_551_616
+          others-from = byTest write (λ e. omega (arith, m .fits e, m .sized, x .counted, both-long)) (λ e. omega (arith, nought e, own-few))
+
+          pub others-room : Room write (to + 8 * n) (length others) rows₁
+          others-room = record {
+            fits = λ e. omega (arith, m .fits e, x .counted, both-long, same-long);
+            sized = omega (arith, m .sized, same-long);
+            counts = λ e. omega (arith, nought e, own-few);
+          }
+
+          pub all-chosen : (rows₂ : List ℕ) (k : ℕ) → Chose write (to + 8 * n) others rows₁ rows₂ k → Chose write to Asked rows rows₂ (n + k)
+          all-chosen rows₂ k y = rw parts (chose-both write to its others rows rows₁ rows₂ n k its-eight x y)

@@ -1,158 +1,128 @@
--- New names, one after another, and the bytes of those that are copied.
-use mathlib.Core.List.{List, [], _∷_, _++_}
+-- New names that are kept, one after another.
+use mathlib.Core.Bool.{Bool, true, false, cond, true≢false}
+use mathlib.Core.List.{List, [], _∷_, _++_, append-nil}
 use mathlib.Core.Path.{_≡_, refl, sym, ap, _∙_}
-use Prim.Native.Nat.{ℕ, zero, suc, _+_, _*_, _≤_, _<_}
-use native.Mathlib.Nat.{add-zero}
-use native.Mathlib.Numerals.{add-one}
+use Prim.Native.Nat.{ℕ, _+_, _*_, _≤_, _<_}
 use native.Mathlib.Omega.{arith}
 use borrow.Author.Tests.{lt-ltb, le-ltb}
-use lib.ListN.{length, getD, set, take, drop, length-drop}
-use lib.Seq.{sets, length-sets, take-suc, length-take-le, getD-drop, drop-drop, drop-set-lt, set-getD, getD-set-other}
-use Rattle.grammar.specs.Grammar.{Span, new, Item, countedName, most}
+use lib.ListN.{length, take, drop, length-append}
+use lib.Seq.{sets, length-sets}
+use Rattle.grammar.specs.Choice.{byTest, cond-by}
+use Rattle.wire.specs.Limits.{maxStore}
+use Rattle.grammar.specs.Grammar.{Span, new, most}
 use Rattle.grammar.specs.Document.{bytesAt}
-use Rattle.grammar.specs.Scan.{addsRef, addsName, addsValue, addsItem, lengths, pairs, copiedPairs, joined}
-use Rattle.grammar.specs.Added.{AllIn, countedName-adds}
-use Rattle.grammar.specs.Stores.{sets-append, pairs-length, pairs-append}
-use Rattle.scanner.specs.Keep.{moved, carried, Movable}
+use Rattle.grammar.specs.Scan.{addsRef, lengths, pairs, copiedPairs, joined}
+use Rattle.grammar.specs.Added.{AllIn}
+use Rattle.grammar.specs.Stores.{sets-append, pairs-length, pairs-append, copied-length, copied-append, lengths-append, joined-append, joined-length}
+use Rattle.scanner.specs.declared.fill.Home.{Home}
+use Rattle.scanner.specs.declared.fill.Kept.{Kept}
+use Rattle.scanner.specs.Fill.{keptPairs, keptBytes, Room, Keeps}
 
--- ---- pairs
+module _ (h : Home) where
+  kept-length : (used : ℕ) (ts : List Span) → length (keptPairs h used ts) ≡ 2 * length ts
+  kept-length used ts = cond-by (λ (x : List ℕ). length x ≡ 2 * length ts) (h .copied) _ _ (λ _. copied-length used ts) (λ _. pairs-length (h .base) ts)
 
--- names after names
-pub pairs-turn : (table : List ℕ) (names base more : ℕ) (a b : List Span) → more ≡ names + length a
-    → sets (sets table (2 * names) (pairs base a)) (2 * more) (pairs base b) ≡ sets table (2 * names) (pairs base (a ++ b))
-pairs-turn table names base more a b e =
-    let p : List ℕ = pairs base a in
-    let n : 2 * more ≡ 2 * names + length p = omega (arith, pairs-length base a) in
-    rw (n, pairs-append base a b) (sym (sets-append table (2 * names) p (pairs base b)))
+  kept-append : (used used′ : ℕ) (a b : List Span) → (h .copied ≡ true → used′ ≡ used + lengths a) → keptPairs h used (a ++ b) ≡ keptPairs h used a ++ keptPairs h used′ b
+  kept-append used used′ a b e =
+      byTest (h .copied) (λ c. rw (c, e c) (copied-append used a b)) (λ c. rw c (pairs-append (h .base) a b))
 
--- a new name's pair, while there is room in the pool
-pub new-kept : (table : List ℕ) (names base : ℕ) (t : Span) → names < most
-    → set (set table (2 * names) (base + t .start)) (2 * names + 1) (t .len) ≡ sets table (2 * names) (pairs base (addsRef names (new t)))
-unfolding addsRef pairs
-new-kept table names base t h =
-    let e : 2 * names + 1 ≡ suc (2 * names) = omega arith in
-    rw (lt-ltb names most h, e)
+  -- none
+  pub keeps-none : (s : List ℕ) (k : Kept) (table store : List ℕ) → Keeps h s k [] table table store store k
+  unfolding pairs copiedPairs joined lengths
+  keeps-none s k table store = record {
+    table-is = byTest (h .copied) (λ c. rw c) (λ c. rw c);
+    store-is = byTest (h .copied) (λ c. rw c) (λ c. rw c);
+    names-are = omega arith;
+    used-is = λ c. omega arith;
+  }
 
-pub new-left : (table : List ℕ) (names base : ℕ) (t : Span) → most ≤ names → table ≡ sets table (2 * names) (pairs base (addsRef names (new t)))
-unfolding addsRef pairs
-new-left table names base t h = rw (le-ltb names most h)
+  -- these, and then others
+  pub keeps-both : (s : List ℕ) (k k₁ k₂ : Kept) (a b : List Span) (table table₁ table₂ store store₁ store₂ : List ℕ) → AllIn (length s) a
+      → Keeps h s k a table table₁ store store₁ k₁ → Keeps h s k₁ b table₁ table₂ store₁ store₂ k₂ → Keeps h s k (a ++ b) table table₂ store store₂ k₂
+  keeps-both s k k₁ k₂ a b table table₁ table₂ store store₁ store₂ i x y = record {
+    table-is = pairs-are;
+    store-is = byTest (h .copied) (λ c. bytes-are c) (λ c. y .store-is ∙ rw c (x .store-is ∙ rw c));
+    names-are = omega (arith, x .names-are, y .names-are, length-append a b);
+    used-is = λ c. omega (arith, x .used-is c, y .used-is c, lengths-append a b);
+  }
+    where
+      pairs-are : table₂ ≡ sets table (2 * k .names) (keptPairs h (k .used) (a ++ b))
+      pairs-are =
+          let n : 2 * k₁ .names ≡ 2 * k .names + length (keptPairs h (k .used) a) = omega (arith, x .names-are, kept-length (k .used) a) in
+          y .table-is ∙ ap (λ (m : ℕ). sets table₁ m (keptPairs h (k₁ .used) b)) n
+          ∙ ap (λ (t : List ℕ). sets t (2 * k .names + length (keptPairs h (k .used) a)) (keptPairs h (k₁ .used) b)) (x .table-is)
+          ∙ sym (sets-append table (2 * k .names) (keptPairs h (k .used) a) (keptPairs h (k₁ .used) b))
+          ∙ ap (λ (v : List ℕ). sets table (2 * k .names) v) (sym (kept-append (k .used) (k₁ .used) a b (x .used-is)))
 
--- a row's name, then its value
-pub item-kept : (table table₁ table₂ : List ℕ) (names base more : ℕ) (i : Item) → more ≡ countedName names (i .name)
-    → table₁ ≡ sets table (2 * names) (pairs base (addsName names (i .name))) → table₂ ≡ sets table₁ (2 * more) (pairs base (addsValue more (i .value)))
-    → table₂ ≡ sets table (2 * names) (pairs base (addsItem names i))
-unfolding addsItem
-item-kept table table₁ table₂ names base more i m e f =
-    f ∙ rw (e, pairs-turn table names base more (addsName names (i .name)) (addsValue more (i .value)) (m ∙ countedName-adds names (i .name)), m)
+      bytes-are : h .copied ≡ true → store₂ ≡ keptBytes h s (k .used) store (a ++ b)
+      bytes-are c =
+          let n : k₁ .used ≡ k .used + length (joined s a) = x .used-is c ∙ ap (λ (m : ℕ). k .used + m) (sym (joined-length s a i)) in
+          let p : store₁ ≡ sets store (k .used) (joined s a) = x .store-is ∙ rw c in
+          let q : store₂ ≡ sets store₁ (k₁ .used) (joined s b) = y .store-is ∙ rw c in
+          q ∙ rw (c, n, p, joined-append s a b, sets-append store (k .used) (joined s a) (joined s b))
 
--- ---- words one by one
+  -- the words and bytes stay as many
+  module _ {s : List ℕ} {k k₁ : Kept} {a : List Span} {table table₁ store store₁ : List ℕ} (x : Keeps h s k a table table₁ store store₁ k₁) where
+    pub keeps-words : length table₁ ≡ length table
+    keeps-words = ap length (x .table-is) ∙ length-sets table (2 * k .names) (keptPairs h (k .used) a)
 
--- one word more
-pub words-turn : (words rows : List ℕ) (n i : ℕ) (now : List ℕ) → n ≤ length words → i < n → now ≡ sets rows 0 (take i words)
-    → set now i (getD words i 0) ≡ sets rows 0 (take (i + 1) words)
-words-turn words rows n i now h k e =
-    let l : length (take i words) ≡ i = length-take-le i words (omega arith) in
-    let z : 0 + i ≡ i = omega arith in
-    let t : take (i + 1) words ≡ take i words ++ (getD words i 0 ∷ []) = rw add-one (take-suc words i 0 (omega arith)) in
-    rw (e, t, sets-append rows 0 (take i words) (getD words i 0 ∷ []), l, z)
+    pub keeps-bytes : length store₁ ≡ length store
+    keeps-bytes = ap length (x .store-is) ∙ cond-by (λ (y : List ℕ). length y ≡ length store) (h .copied) _ _ (λ _. length-sets store (k .used) (joined s a)) (λ _. refl)
 
--- ---- names that are copied
+    -- room for others after them
+    pub room-then : (b : List Span) → Room h k (a ++ b) table store → Room h k₁ b table₁ store₁
+    room-then b r = record {
+      pairs-fit = omega (arith, r .pairs-fit, x .names-are, keeps-words, length-append a b);
+      bytes-fit = λ c. (omega (arith, r .bytes-fit c .0, x .used-is c, keeps-bytes, lengths-append a b), omega (arith, r .bytes-fit c .1, keeps-bytes));
+    }
 
--- what is left to do of so many pairs, the next at word k
-module _ (s : List ℕ) where
-  abbrev pub Pairs : ℕ → ℕ → List ℕ → ℕ → List ℕ
-  Pairs n used table k = sets table k (moved n used (drop k table))
+  pub room-first : (k : Kept) (a b : List Span) (table store : List ℕ) → Room h k (a ++ b) table store → Room h k a table store
+  room-first k a b table store r = record {
+    pairs-fit = omega (arith, r .pairs-fit, length-append a b);
+    bytes-fit = λ c. (omega (arith, r .bytes-fit c .0, lengths-append a b), r .bytes-fit c .1);
+  }
 
-  abbrev pub Bytes : ℕ → ℕ → List ℕ → ℕ → List ℕ → List ℕ
-  Bytes n used table k store = sets store used (carried n s (drop k table))
+-- ---- a new name
 
-  -- the words of the pair at word k
-  start-at : (table : List ℕ) (k : ℕ) → getD (drop k table) 0 0 ≡ getD table k 0
-  start-at table k = getD-drop k table 0 0 ∙ rw add-zero
+module _ (h : Home) (s : List ℕ) (k : Kept) (t : Span) (table store : List ℕ) where
+  abbrev new-names : List Span
+  new-names = addsRef (k .names) (new t)
 
-  len-at : (table : List ℕ) (k : ℕ) → getD (drop k table) 1 0 ≡ getD table (k + 1) 0
-  len-at table k = getD-drop k table 1 0
+  pub new-none : most ≤ k .names → Keeps h s k new-names table table store store k
+  unfolding addsRef
+  new-none m = rw (le-ltb (k .names) most m) (keeps-none h s k table store)
 
-  later : (table : List ℕ) (k used : ℕ) → drop (k + 2) (set table k used) ≡ drop 2 (drop k table)
-  later table k used = drop-set-lt (k + 2) table k used (omega arith) ∙ sym (drop-drop 2 k table)
+  module _ (m : k .names < most) (r : Room h k new-names table store) where
+    is-one : new-names ≡ t ∷ []
+    unfolding addsRef
+    is-one = rw (lt-ltb (k .names) most m)
 
-  pub pairs-moved : (n used : ℕ) (table : List ℕ) (k : ℕ) → Pairs n (used + getD table (k + 1) 0) (set table k used) (k + 2) ≡ Pairs (suc n) used table k
-  unfolding moved
-  pairs-moved n used table k =
-      let e : k + 2 ≡ suc (suc k) = omega arith in
-      let f : suc k ≡ k + 1 = omega arith in
-      let t : List ℕ = set table k used in
-      let g : getD t (k + 1) 0 ≡ getD table (k + 1) 0 = getD-set-other table k (k + 1) used 0 (λ z. omega arith) in
-      let same : set t (suc k) (getD table (k + 1) 0) ≡ t = rw (f, ← g) (set-getD t (k + 1) 0) in
-      rw (later table k used, len-at table k, same, ← e)
+    one-room : Room h k (t ∷ []) table store
+    one-room = rw is-one at r
 
-  pub bytes-moved : (n used : ℕ) (table : List ℕ) (k : ℕ) (store now : List ℕ) → getD table k 0 + getD table (k + 1) 0 ≤ length s
-      → now ≡ sets store used (take (getD table (k + 1) 0) (drop (getD table k 0) s))
-      → Bytes n (used + getD table (k + 1) 0) (set table k used) (k + 2) now ≡ Bytes (suc n) used table k store
-  unfolding carried
-  bytes-moved n used table k store now h e =
-      let b : List ℕ = take (getD table (k + 1) 0) (drop (getD table k 0) s) in
-      let l : length b ≡ getD table (k + 1) 0 = length-take-le (getD table (k + 1) 0) (drop (getD table k 0) s) (simp length-drop (omega arith)) in
-      rw (later table k used, len-at table k, start-at table k, e, sets-append store used b (carried n s (drop 2 (drop k table))), l)
+    pub new-pair : 2 * k .names + 2 ≤ length table
+    new-pair = omega (arith, one-room .pairs-fit)
 
-  pub movable-here : (n used : ℕ) (table : List ℕ) (k : ℕ) (store : List ℕ) → Movable (suc n) used s (drop k table) store
-      → (getD table k 0 + getD table (k + 1) 0 ≤ length s) × Movable n (used + getD table (k + 1) 0) s (drop (k + 2) (set table k used)) store
-  movable-here n used table k store m = rw (later table k used, ← start-at table k, ← len-at table k) m
+    pub new-bytes : h .copied ≡ true → (k .used + t .len ≤ length store) × (length store ≤ maxStore)
+    unfolding lengths
+    new-bytes c = (omega (arith, one-room .bytes-fit c .0), one-room .bytes-fit c .1)
 
-  movable-fits : (n used : ℕ) (ps store : List ℕ) → Movable n used s ps store → used ≤ length store
-  movable-fits zero used ps store m = m
-  movable-fits (suc n) used ps store m = omega (arith, movable-fits n (used + getD ps 1 0) (drop 2 ps) store (m .1))
+    pub new-copied : h .copied ≡ true → (table₁ store₁ : List ℕ) → table₁ ≡ sets table (2 * k .names) (k .used ∷ t .len ∷ [])
+        → store₁ ≡ sets store (k .used) (take (t .len) (drop (t .start) s)) → Keeps h s k new-names table table₁ store store₁ (record { names = k .names + 1; used = k .used + t .len })
+    unfolding copiedPairs joined bytesAt lengths
+    new-copied c table₁ store₁ d e = rw is-one (record {
+      table-is = d ∙ rw c;
+      store-is = e ∙ rw (c, append-nil (take (t .len) (drop (t .start) s)));
+      names-are = refl;
+      used-is = λ _. omega arith;
+    })
 
-  pub movable-used : (n used : ℕ) (table : List ℕ) (k : ℕ) (store : List ℕ) → Movable (suc n) used s (drop k table) store → used + getD table (k + 1) 0 ≤ length store
-  movable-used n used table k store m = movable-fits n (used + getD table (k + 1) 0) _ store (movable-here n used table k store m .1)
-
-  movable-as : (n used : ℕ) (ps store now : List ℕ) → length now ≡ length store → Movable n used s ps store → Movable n used s ps now
-  movable-as zero used ps store now e m = omega arith
-  movable-as (suc n) used ps store now e m = (m .0, movable-as n (used + getD ps 1 0) (drop 2 ps) store now e (m .1))
-
-  pub movable-next : (n used : ℕ) (table : List ℕ) (k : ℕ) (store now : List ℕ) → length now ≡ length store → Movable (suc n) used s (drop k table) store
-      → Movable n (used + getD table (k + 1) 0) s (drop (k + 2) (set table k used)) now
-  movable-next n used table k store now e m = movable-as n _ _ store now e (movable-here n used table k store m .1)
-
-  -- what is left of so many pairs, the next at word k: it makes the table T and the store B
-  pub record Moving (T B : List ℕ) (n used : ℕ) (table : List ℕ) (k : ℕ) (store : List ℕ) : Type 0 where
-    pub movable : Movable n used s (drop k table) store
-    pub pairs-to : Pairs n used table k ≡ T
-    pub bytes-to : Bytes n used table k store ≡ B
-
-  pub moving-as : (T B : List ℕ) (n m used : ℕ) (table : List ℕ) (k j : ℕ) (store : List ℕ) → n ≡ m → k ≡ j → Moving T B n used table k store → Moving T B m used table j store
-  moving-as T B n m used table k j store e f g = rw (← e, ← f) g
-
-  pub moving-more : (T B : List ℕ) (n used : ℕ) (table : List ℕ) (k : ℕ) (store now : List ℕ) → Moving T B (suc n) used table k store
-      → now ≡ sets store used (take (getD table (k + 1) 0) (drop (getD table k 0) s)) → Moving T B n (used + getD table (k + 1) 0) (set table k used) (k + 2) now
-  moving-more T B n used table k store now g e =
-      let here = movable-here n used table k store (g .movable) in
-      let l : length now ≡ length store = ap length e ∙ length-sets store used (take (getD table (k + 1) 0) (drop (getD table k 0) s)) in
-      record {
-        movable = movable-next n used table k store now l (g .movable);
-        pairs-to = pairs-moved n used table k ∙ g .pairs-to;
-        bytes-to = bytes-moved n used table k store now (here .0) e ∙ g .bytes-to;
-      }
-
-  pub moving-done : (T B : List ℕ) (used : ℕ) (table : List ℕ) (k : ℕ) (store : List ℕ) → Moving T B zero used table k store → (table ≡ T) × (store ≡ B)
-  unfolding moved carried
-  moving-done T B used table k store g = (g .pairs-to, g .bytes-to)
-
-  -- the pairs of an event's new names, counted from the event's start
-  pub moved-pairs : (used : ℕ) (ts : List Span) (more : List ℕ) → moved (length ts) used (pairs 0 ts ++ more) ≡ copiedPairs used ts
-  unfolding moved pairs copiedPairs
-  moved-pairs used [] more = refl
-  moved-pairs used (t ∷ ts) more = rw (moved-pairs (used + t .len) ts more)
-
-  pub carried-pairs : (ts : List Span) (more : List ℕ) → carried (length ts) s (pairs 0 ts ++ more) ≡ joined s ts
-  unfolding carried pairs joined bytesAt
-  carried-pairs [] more = refl
-  carried-pairs (t ∷ ts) more =
-      let e : 0 + t .start ≡ t .start = omega arith in
-      ap (λ (k : ℕ). take (t .len) (drop k s) ++ carried (length ts) s (pairs 0 ts ++ more)) e
-      ∙ ap (λ (r : List ℕ). take (t .len) (drop (t .start) s) ++ r) (carried-pairs ts more)
-
-  pub pairs-movable : (used : ℕ) (ts : List Span) (more store : List ℕ) → AllIn (length s) ts → used + lengths ts ≤ length store → Movable (length ts) used s (pairs 0 ts ++ more) store
-  unfolding pairs lengths
-  pairs-movable used [] more store a h = omega arith
-  pairs-movable used (t ∷ ts) more store a h = (omega (arith, a .0), pairs-movable (used + t .len) ts more store (a .1) (omega arith))
+    pub new-there : h .copied ≡ false → (table₁ : List ℕ) → table₁ ≡ sets table (2 * k .names) ((h .base + t .start) ∷ t .len ∷ [])
+        → Keeps h s k new-names table table₁ store store (record { names = k .names + 1; used = k .used })
+    unfolding pairs lengths
+    new-there c table₁ d = rw is-one (record {
+      table-is = d ∙ rw c;
+      store-is = rw c;
+      names-are = refl;
+      used-is = λ x. absurd (true≢false (sym x ∙ c));
+    })

@@ -1,12 +1,9 @@
-mod Tallies
-mod Attributes
-mod Rest
 mod Keeping
-mod Walk
-mod Passes
+mod Filling
+mod Rowing
+mod Walking
+mod Beginning
 mod Stepping
 mod Quickly
-mod Choosing
 mod Picking
-mod Leanly
-mod Filling
+mod Choosing

@@ -1,39 +1,112 @@
--- One event of a query, from what is taken of it to the turn that the definition makes.
+-- One event of a query, from a row's name to the turn that the definition makes.
 use mathlib.Core.Bool.{Bool, true, false, _||_, cond, true≢false}
 use mathlib.Core.List.{List, [], _∷_, _++_, append-nil}
-use mathlib.Core.Path.{_≡_, refl, sym, ap, _∙_, fun-ext}
+use mathlib.Core.Path.{_≡_, refl, sym, ap, _∙_}
 use Prim.Native.Nat.{ℕ, suc, _+_, _*_, _-_, _/_, _≤_, _<_}
+use native.Mathlib.Numerals.{add-one}
 use native.Mathlib.Omega.{arith}
-use borrow.Author.Tests.{lt-ltb, le-ltb, ltb-true, ltb-false, eq-eqb, ne-eqb}
-use lib.Dec.{ltb}
-use lib.ListN.{length, take, drop, getD, replicate, length-replicate, length-append, length-drop, List·getD-append, take-append-drop}
-use lib.Seq.{sets, take-all, sets-eq, length-sets, length-take-le, take-at, drop-at, getD-take}
+use borrow.Author.Tests.{lt-ltb, le-ltb, ltb-false, eq-eqb, ne-eqb}
+use lib.Dec.{ltb, leb, eqb}
+use lib.ListN.{length, take, drop, getD, set, replicate, length-replicate, length-append, length-drop, drop-of-length-le}
+use lib.Seq.{sets, take-all, take-nil, drop-nil, take-suc, drop-cons, sets-eq, length-sets, length-take-le, take-at, drop-at}
+use Rattle.wire.specs.Token as Token
 use Rattle.wire.specs.Refusal.{rowsFull, poolFull, badSize, badState}
 use Rattle.wire.specs.declared.Refusal.{Refusal}
-use Rattle.wire.specs.Token.{internedNew}
-use Rattle.grammar.specs.Grammar.{Span, Items, item, whole, lacks, stops, most, counted, countedName, after, event}
+use Rattle.wire.specs.Limits.{maxStore}
+use Rattle.event.specs.Span.{part, span, text, same}
+use Rattle.event.specs.Row.{hasName, rowAt}
+use Rattle.grammar.specs.Grammar.{Span, Items, item, whole, lacks, stops, most, countedName, after, event}
 use Rattle.grammar.specs.Added.{after-adds}
+use Rattle.grammar.specs.Attributes.{complete-ended}
 use Rattle.grammar.specs.Scan.{sound, addsItem, adds, pairs, itemWords, words, complete, incomplete, bad, outcome, Measure, measure}
 use Rattle.grammar.specs.Scan as Scan
 use Rattle.grammar.specs.Choice.{byTest, cond-by}
 use Rattle.grammar.specs.Said.{item-length}
 use Rattle.grammar.specs.Laws.{Agree, agree-event}
-use Rattle.grammar.specs.Stores.{sound-sets, pairs-length}
+use Rattle.grammar.specs.Stores.{sets-append, pairs-length}
+use Rattle.grammar.specs.Trusted.{always, trusted-event}
+use Rattle.extent.specs.Measured.{measured}
 use Rattle.slice_spec.specs.Slice.{Place, sizesBad, placeBad, itemsAt, tableAfter, placeAfter}
-use Rattle.slice_spec.specs.Queries.{Words, split, named, isElement, allNamed, firstNamed, picks, picked, Progress, past, kindOf, tableWith, writes, done, refused}
+use Rattle.slice_spec.specs.Queries.{Words, split, named, isElement, concat, allNamed, firstNamed, picks, picked, Progress, past, kindOf, tableWith, writes, done, refused}
 use Rattle.slice_spec.specs.Bounds.{Fits, fits}
 use Rattle.slice_spec.specs.Stored.{words-front}
 use Rattle.slice_spec.specs.Whole.{countedName-most, countedValue-most}
 use Rattle.slice_spec.specs.Turns.{Turn, passed, halted, passing, turnBy, turnOrRefuse}
-use Rattle.scanner.specs.declared.fields.Pool.{Pool}
-use Rattle.wire.specs.Limits.{maxStore}
-use Rattle.scanner.specs.Keep.{Keepable}
-use Rattle.scanner.specs.Turn.{soundOf}
-use Rattle.scanner.proofs.Passes.{complete-ended}
+use Rattle.scanner.specs.Fill.{ReadyAt}
 use Rattle.scanner.specs.declared.select.Query.{Query}
 use Rattle.scanner.specs.declared.select.Query.the-variants as Query
 use Rattle.scanner.specs.declared.select.Seen.the-variants as Seen
-use Rattle.scanner.specs.Select.{queryOf, takesOne, mostOf, rowsOf, taken, chosen, asked, Room, Chose, Whole, Handed, progress, seen, Sees, Tried, turned, unsure, inDoubt, uncountedBy, uncounted, turn-seen}
+use Rattle.scanner.specs.Select.{queryOf, takesOne, mostOf, rowsOf, taken, chosen, grown, asked, Room, Chose, Whole, progress, seen, Sees, Tried, turned, unsure, inDoubt, uncountedBy, uncounted, turn-seen}
+
+-- ---- a row's name
+
+-- a span's bytes, where there is no second store
+empty-part : (a b : ℕ) → part [] a b ≡ []
+unfolding part
+empty-part a b = cond-by (λ (x : List ℕ). x ≡ []) (leb (a + b) 0) _ _ (λ _. ap (take b) (drop-nil a) ∙ take-nil b) (λ _. refl)
+
+alone : (document : List ℕ) (s a b : ℕ) → span document [] s a b ≡ text document s a b
+unfolding span text
+alone document s a b =
+    byTest (eqb s 0) (λ e. rw e) (λ e. rw e (cond-by (λ (x : List ℕ). x ≡ []) (eqb s 1) _ _ (λ _. empty-part a b) (λ _. refl)))
+
+same-empty : (b : Bool) (x : List ℕ) → b ≡ eqb (length x) 0 → b ≡ same [] x
+unfolding same
+same-empty b [] e = e
+same-empty b (y ∷ x) e = e ∙ ne-eqb (suc (length x)) 0 (λ z. omega arith)
+
+module _ (document name : List ℕ) where
+  module _ (w : Words) (b : Bool) where
+    pub named-by : hasName (getD w 0 0) ≡ true → b ≡ same (text document (getD w 1 0) (getD w 2 0) (getD w 3 0)) name → b ≡ named document name w
+    unfolding named rowAt
+    named-by h f = f ∙ rw (h, alone document (getD w 1 0) (getD w 2 0) (getD w 3 0))
+
+    pub unnamed-by : hasName (getD w 0 0) ≡ false → b ≡ eqb (length name) 0 → b ≡ named document name w
+    unfolding named rowAt
+    unnamed-by h e = same-empty b name e ∙ rw h
+
+    pub element-by : getD w 0 0 ≡ Token.startTag → b ≡ named document name w → b ≡ isElement document name w
+    unfolding isElement
+    element-by k e = e ∙ rw (eq-eqb (getD w 0 0) Token.startTag k)
+
+  pub element-not : (w : Words) → (getD w 0 0 ≡ Token.startTag → ⊥) → false ≡ isElement document name w
+  unfolding isElement
+  element-not w k = rw (ne-eqb (getD w 0 0) Token.startTag k)
+
+-- ---- words that are stored
+
+-- a row is its eight words
+pub eight : (w : Words) → length w ≡ 8 → getD w 0 0 ∷ getD w 1 0 ∷ getD w 2 0 ∷ getD w 3 0 ∷ getD w 4 0 ∷ getD w 5 0 ∷ getD w 6 0 ∷ getD w 7 0 ∷ [] ≡ w
+eight w l =
+    rw (
+      ← drop-of-length-le w {i = 8} (omega arith),
+      ← drop-cons w 7 0 (omega arith),
+      ← drop-cons w 6 0 (omega arith),
+      ← drop-cons w 5 0 (omega arith),
+      ← drop-cons w 4 0 (omega arith),
+      ← drop-cons w 3 0 (omega arith),
+      ← drop-cons w 2 0 (omega arith),
+      ← drop-cons w 1 0 (omega arith),
+    )
+    (sym (drop-cons w 0 0 (omega arith)))
+
+-- one word more
+pub words-turn : (words rows : List ℕ) (n i : ℕ) (now : List ℕ) → n ≤ length words → i < n → now ≡ sets rows 0 (take i words)
+    → set now i (getD words i 0) ≡ sets rows 0 (take (i + 1) words)
+words-turn words rows n i now h k e =
+    let l : length (take i words) ≡ i = length-take-le i words (omega arith) in
+    let z : 0 + i ≡ i = omega arith in
+    let t : take (i + 1) words ≡ take i words ++ (getD words i 0 ∷ []) = rw add-one (take-suc words i 0 (omega arith)) in
+    rw (e, t, sets-append rows 0 (take i words) (getD words i 0 ∷ []), l, z)
+
+-- the row alone, where it is taken
+pub chose-first : (write : Bool) (to : ℕ) (w rows rows₁ : List ℕ) → rows₁ ≡ cond write (sets rows to w) rows → Chose write to (w ∷ []) rows rows₁ 1
+unfolding concat
+chose-first write to w rows rows₁ e = record { counted = refl; rows-are = e ∙ rw (append-nil w) }
+
+pub chose-none : (write : Bool) (to : ℕ) (rows : List ℕ) → Chose write to [] rows rows 0
+unfolding concat
+chose-none write to rows = record { counted = refl; rows-are = cond-by (λ (x : List ℕ). rows ≡ x) write _ _ (λ _. refl) (λ _. refl) }
 
 -- ---- what the definition picks, and what the code takes
 
@@ -104,13 +177,6 @@ counting n x = record { fits = λ t. absurd (true≢false (sym t)); sized = omeg
 pub zeros-long : (n : ℕ) → n ≤ length {A = ℕ} (replicate n 0)
 zeros-long n = omega (arith, length-replicate {A = ℕ} n 0)
 
--- the same for a list that is equal
-pub room-by : (write : Bool) (to : ℕ) (rows : List ℕ) (vs ws : List Words) → vs ≡ ws → Room write to (length ws) rows → Room write to (length vs) rows
-room-by write to rows vs ws e r = rw e r
-
-pub chose-by : (write : Bool) (to : ℕ) (rows rows′ : List ℕ) (n : ℕ) (vs ws : List Words) → vs ≡ ws → Chose write to vs rows rows′ n → Chose write to ws rows rows′ n
-chose-by write to rows rows′ n vs ws e r = rw e at r
-
 -- ---- rows by their words
 
 module _ (base : ℕ) (table : List ℕ) where
@@ -132,7 +198,7 @@ module _ (base : ℕ) (table : List ℕ) where
   rows-count (stops n d) = refl
 
 -- what a query writes of an event is what the code takes
-pub asked-writes : (q : Query) (element name document : List ℕ) (g : Progress) (is : Items)
+asked-writes : (q : Query) (element name document : List ℕ) (g : Progress) (is : Items)
     → asked q element name document (g .place) (g .table) is ≡ writes (queryOf q element name) document g is
 unfolding asked writes
 asked-writes q element name document g is =
@@ -153,18 +219,9 @@ adds-most k (stops n d) h = omega arith
 
 -- ---- an event that was read whole
 
--- entries by the beginning of a table
-sound-front : (names stored : ℕ) (u rest table : List ℕ) → u ≡ take (2 * names) table → 2 * names ≤ length table → sound names (u ++ rest) stored ≡ sound names table stored
-unfolding sound
-sound-front names stored u rest table e h =
-    let l : length u ≡ 2 * names = ap length e ∙ length-take-le (2 * names) table h in
-    fun-ext (λ j. byTest (ltb j names)
-    (λ b.
-    let k = ltb-true j names b in
-    let x : getD (u ++ rest) (2 * j) 0 ≡ getD table (2 * j) 0 = List·getD-append u rest 0 (2 * j) (omega arith) ∙ ap (λ (v : List ℕ). getD v (2 * j) 0) e ∙ getD-take (2 * names) table (2 * j) 0 (omega arith) in
-    let y : getD (u ++ rest) (2 * j + 1) 0 ≡ getD table (2 * j + 1) 0 = List·getD-append u rest 0 (2 * j + 1) (omega arith) ∙ ap (λ (v : List ℕ). getD v (2 * j + 1) 0) e ∙ getD-take (2 * names) table (2 * j + 1) 0 (omega arith) in
-    rw (b, x, y))
-    (λ b. rw b))
+-- the bytes from a place on, as the code lends them
+pub lent : (document : List ℕ) (at : ℕ) → at ≤ length document → take (length document - at) (drop at document) ≡ drop at document
+lent document at h = take-all (length document - at) (drop at document) (omega (arith, length-drop at document))
 
 module _ (document : List ℕ) (p : Place) (table : List ℕ) (count added : ℕ) (w : Whole document p table (itemsAt p document table) count added) where
   abbrev is : Items
@@ -176,21 +233,14 @@ module _ (document : List ℕ) (p : Place) (table : List ℕ) (count added : ℕ
   abbrev bytes : List ℕ
   bytes = drop (p .at) document
 
-  -- the same, as the code lends it
-  abbrev s : List ℕ
-  s = take (length document - p .at) bytes
-
-  lent : s ≡ bytes
-  lent = take-all (length document - p .at) bytes (omega (arith, length-drop (p .at) document))
-
-  abbrev pool : Pool
-  pool = record { kept = p .names; stored = length document; names = p .names }
-
   abbrev front : List ℕ
   front = take (2 * p .names) table
 
   abbrev fresh : List ℕ
   fresh = pairs (p .at) ts
+
+  abbrev withNames : List ℕ
+  withNames = tableWith p table ts
 
   front-length : length front ≡ 2 * p .names
   front-length = length-take-le (2 * p .names) table (w .names-fit)
@@ -198,30 +248,12 @@ module _ (document : List ℕ) (p : Place) (table : List ℕ) (count added : ℕ
   fresh-length : length fresh ≡ 2 * length ts
   fresh-length = pairs-length (p .at) ts
 
-  -- no table has more pairs, and the pool no more names
-  pub names-few : p .names ≤ internedNew
-  names-few = omega (arith, w .names-fit, w .table-small)
-
-  -- a table in whose first pairs the same entries are at hand
-  module _ (T : List ℕ) (e : sound (p .names) T (length document) ≡ sound (p .names) table (length document)) where
-    pub same-event : event (soundOf pool T) (p .names) s ≡ is
-    unfolding itemsAt
-    same-event = ap (λ (x : ℕ → Bool). event x (p .names) s) e ∙ ap (event (sound (p .names) table (length document)) (p .names)) lent
-
-    pub added-are : added ≡ length (adds (p .names) (event (soundOf pool T) (p .names) s))
-    added-are = w .as-many ∙ ap (λ (x : Items). length (adds (p .names) x)) (sym same-event)
-
-    pub keepable : 2 * (p .names + length ts) ≤ length T → Keepable (p .at) s (event (soundOf pool T) (p .names) s) pool T
-    keepable h =
-        rw same-event
-        (record { ended = w .ended; in-store = omega (arith, ap length lent, length-drop (p .at) document, w .at-fits, w .document-small); pairs-fit = h; kept-first = omega arith })
-
   agreed : Agree bytes [] (p .names) 1 is (event (sound (p .names) table (length document)) (p .names) (bytes ++ []))
   unfolding itemsAt
   agreed = agree-event bytes [] (sound (p .names) table (length document)) (p .names)
 
   -- the rows by a table that begins with the pool's pairs and the event's
-  same-rows : (T rest : List ℕ) → T ≡ (front ++ fresh) ++ rest → rowsOf (p .at) T is ≡ rowsOf (p .at) (tableWith p table ts) is
+  same-rows : (T rest : List ℕ) → T ≡ (front ++ fresh) ++ rest → rowsOf (p .at) T is ≡ rowsOf (p .at) withNames is
   unfolding tableWith
   same-rows T rest e =
       ap (λ (x : List ℕ). rowsOf (p .at) x is) e
@@ -229,72 +261,56 @@ module _ (document : List ℕ) (p : Place) (table : List ℕ) (count added : ℕ
       ∙ ap (split (Scan.count is)) (words-front 0 (p .at) (front ++ fresh) rest bytes [] 1 (p .names) is _ agreed (omega (arith, length-append front fresh, front-length, fresh-length)))
       ∙ rows-split (p .at) (front ++ fresh) is
 
-  -- a table, once the event's names are stored after the pool's pairs
-  module _ (T : List ℕ) (begins : take (2 * p .names) T ≡ front) (sounds : sound (p .names) T (length document) ≡ sound (p .names) table (length document))
-      (room : 2 * (p .names + length ts) ≤ length T) (T′ : List ℕ) (stored : T′ ≡ sets T (2 * p .names) (pairs (p .at) (adds (p .names) (event (soundOf pool T) (p .names) s)))) where
-    stored-is : T′ ≡ sets T (2 * p .names) fresh
-    stored-is = stored ∙ ap (λ (x : Items). sets T (2 * p .names) (pairs (p .at) (adds (p .names) x))) (same-event T sounds)
+  -- its bytes read again, with every entry taken for sound
+  module _ (s : List ℕ) (z : s ≡ bytes) where
+    abbrev read : Items
+    read = event always (p .names) s
 
-    sounds-after : sound (p .names) T′ (length document) ≡ sound (p .names) table (length document)
-    sounds-after = ap (λ (x : List ℕ). sound (p .names) x (length document)) stored-is ∙ sound-sets (p .names) (length document) T (2 * p .names) fresh (omega arith) ∙ sounds
+    again : read ≡ is
+    unfolding itemsAt
+    again = ap (event always (p .names)) z ∙ sym (trusted-event (sound (p .names) table (length document)) bytes (p .names) (w .ended))
 
-    long-after : length T′ ≡ length T
-    long-after = ap length stored-is ∙ length-sets T (2 * p .names) fresh
+    pub again-added : added ≡ length (adds (p .names) read)
+    again-added = w .as-many ∙ ap (λ (x : Items). length (adds (p .names) x)) (sym again)
 
-    pub stored-keepable : Keepable (p .at) s (event (soundOf pool T′) (p .names) s) pool T′
-    stored-keepable = keepable T′ sounds-after (omega (arith, long-after))
+    -- by a table that begins with the pool's pairs and has room for the event's
+    module _ (T : List ℕ) (begins : take (2 * p .names) T ≡ front) (room : 2 * (p .names + added) ≤ length T) where
+      pub again-ready : ReadyAt (p .at) s (p .names) read T
+      again-ready =
+          rw again
+          (record {
+            ended = w .ended;
+            in-store = omega (arith, ap length z, length-drop (p .at) document, w .at-fits, w .document-small);
+            room = record { pairs-fit = omega (arith, w .as-many); bytes-fit = λ t. absurd (true≢false (sym t)) };
+          })
 
-    pub stored-rows : rowsOf (p .at) T′ (event (soundOf pool T′) (p .names) s) ≡ rowsOf (p .at) (tableWith p table ts) is
-    stored-rows =
-        let rest : List ℕ = drop (2 * p .names + length fresh) T in
-        let e : T′ ≡ (front ++ fresh) ++ rest = stored-is ∙ sets-eq fresh T (2 * p .names) (omega (arith, fresh-length)) ∙ ap (λ (x : List ℕ). (x ++ fresh) ++ rest) begins in
-        ap (λ (x : Items). rowsOf (p .at) T′ x) (same-event T′ sounds-after) ∙ same-rows T′ rest e
+      again-rows : rowsOf (p .at) (grown (p .at) (p .names) T read) read ≡ rowsOf (p .at) withNames is
+      again-rows =
+          let rest : List ℕ = drop (2 * p .names + length fresh) T in
+          let e : sets T (2 * p .names) fresh ≡ (front ++ fresh) ++ rest =
+          sets-eq fresh T (2 * p .names) (omega (arith, fresh-length, w .as-many)) ∙ ap (λ (x : List ℕ). (x ++ fresh) ++ rest) begins in
+          ap (λ (x : Items). rowsOf (p .at) (grown (p .at) (p .names) T x) x) again ∙ same-rows (sets T (2 * p .names) fresh) rest e
 
-    pub stored-kind : kindOf (event (soundOf pool T′) (p .names) s) ≡ kindOf is
-    stored-kind = ap kindOf (same-event T′ sounds-after)
+      pub again-asked : (q : Query) (element name : List ℕ) → chosen q document element name (rowsOf (p .at) (grown (p .at) (p .names) T read) read) ≡ asked q element name document p table is
+      unfolding asked
+      again-asked q element name = ap (chosen q document element name) again-rows
 
-    pub stored-table : T′ ≡ sets T (2 * p .names) (pairs (p .at) (adds (p .names) is))
-    stored-table = stored-is
-
-  -- a table that is left as it is, where the event adds no names
-  module _ (none-added : added ≡ 0) where
-    no-names : ts ≡ []
-    no-names = none-of ts (omega (arith, w .as-many))
-      where
-        none-of : (x : List Span) → length x ≡ 0 → x ≡ []
-        none-of [] h = refl
-        none-of (t ∷ x) h = absurd (omega arith)
-
-    pub kept-keepable : Keepable (p .at) s (event (soundOf pool table) (p .names) s) pool table
-    kept-keepable = keepable table refl (omega (arith, w .names-fit, w .as-many))
-
-    pub kept-rows : rowsOf (p .at) table (event (soundOf pool table) (p .names) s) ≡ rowsOf (p .at) (tableWith p table ts) is
-    unfolding pairs
-    kept-rows =
-        let e : table ≡ (front ++ fresh) ++ drop (2 * p .names) table = rw (no-names, append-nil front) (sym (take-append-drop (2 * p .names) table)) in
-        ap (λ (x : Items). rowsOf (p .at) table x) (same-event table refl) ∙ same-rows table _ e
+  -- where no name is added, the pool's own table serves
+  pub none-room : added ≡ 0 → 2 * (p .names + added) ≤ length table
+  none-room e = omega (arith, w .names-fit)
 
   -- a copy of the pool's pairs
   module _ (own own₁ : List ℕ) (long : 131_072 ≤ length own) (copy : own₁ ≡ sets own 0 front) where
-    copy-is : own₁ ≡ front ++ drop (2 * p .names) own
-    copy-is =
-        let n : 0 + length front ≡ 2 * p .names = omega (arith, front-length) in
-        copy ∙ sets-eq front own 0 (omega (arith, front-length, w .names-fit, w .table-small)) ∙ ap (λ (k : ℕ). front ++ drop k own) n
-
     pub copy-begins : take (2 * p .names) own₁ ≡ front
-    copy-begins = ap (take (2 * p .names)) copy-is ∙ take-at front (drop (2 * p .names) own) (2 * p .names) front-length
+    copy-begins =
+        ap (take (2 * p .names)) (copy ∙ sets-eq front own 0 (omega (arith, front-length, w .names-fit, w .table-small)))
+        ∙ take-at front (drop (0 + length front) own) (2 * p .names) front-length
 
-    pub copy-sounds : sound (p .names) own₁ (length document) ≡ sound (p .names) table (length document)
-    copy-sounds = ap (λ (x : List ℕ). sound (p .names) x (length document)) copy-is ∙ sound-front (p .names) (length document) front (drop (2 * p .names) own) table refl (w .names-fit)
-
-    pub copy-room : 2 * (p .names + length ts) ≤ length own₁
+    pub copy-room : 2 * (p .names + added) ≤ length own₁
     unfolding most
     copy-room =
         let l : length own₁ ≡ length own = ap length copy ∙ length-sets own 0 front in
-        omega (arith, adds-most (p .names) is names-few)
-
-  pub more-room : 2 * (p .names + added) ≤ length table → 2 * (p .names + length ts) ≤ length table
-  more-room h = omega (arith, w .as-many)
+        omega (arith, w .as-many, adds-most (p .names) is (omega (arith, w .names-fit, w .table-small)))
 
   -- ---- what is asked of it
 
@@ -302,15 +318,11 @@ module _ (document : List ℕ) (p : Place) (table : List ℕ) (count added : ℕ
     abbrev ws : List Words
     ws = asked q element name document p table is
 
-    pub asked-by : (T : List ℕ) (x : Items) → rowsOf (p .at) T x ≡ rowsOf (p .at) (tableWith p table ts) is → chosen q document element name (rowsOf (p .at) T x) ≡ ws
-    unfolding asked
-    asked-by T x e = ap (chosen q document element name) e
-
     asked-few : length ws ≤ mostOf q count
     unfolding asked
     asked-few =
-        let e : length (rowsOf (p .at) (tableWith p table ts) is) ≡ count = rows-count (p .at) (tableWith p table ts) is ∙ sym (w .rows-are) in
-        rw (← e) (chosen-few document name q element (rowsOf (p .at) (tableWith p table ts) is))
+        let e : length (rowsOf (p .at) withNames is) ≡ count = rows-count (p .at) withNames is ∙ sym (w .rows-are) in
+        rw (← e) (chosen-few document name q element (rowsOf (p .at) withNames is))
 
     -- enough for all that could be taken
     pub surely : (room written : ℕ) → ltb room (written + mostOf q count) ≡ false → written + length ws ≤ room
@@ -341,22 +353,32 @@ module _ (document : List ℕ) (p : Place) (table : List ℕ) (count added : ℕ
         pub pairs-room : added ≤ free → 2 * (p .names + added) ≤ length table
         pairs-room h = omega (arith, w .names-fit)
 
-        pub rows-room : length rows < 18_446_744_073_709_551_616 → Room true (8 * written) (length ws) rows
-        rows-room z = record { fits = λ _. omega arith; sized = z; counts = λ t. absurd (let k : _≡_ {A = ℕ} 0 1 = cc t in omega arith) }
+        -- the bytes read again, by the pool's table
+        module _ (s : List ℕ) (z : s ≡ bytes) (enough : added ≤ free) where
+          abbrev took : List Words
+          took = chosen q document element name (rowsOf (p .at) (grown (p .at) (p .names) table (read s z)) (read s z))
 
-        pub handed : (table′ rows′ : List ℕ) (kind n : ℕ) → added ≤ free → Handed document p table table′ rows rows′ is written ws kind n
-            → passed kind n (record { place = record { at = p .at + len; names = p .names + added }; table = table′; rows = rows′; events = events + 1; written = written + n }) ≡ There
-        unfolding passing past placeAfter tableAfter
-        handed table′ rows′ kind n b x =
-            rw (
-              le-ltb (length rows / 8) (written + length ws) fit,
-              le-ltb (length table) (2 * (p .names + length ts)) (omega (arith, w .as-many, w .names-fit)),
-              x .kind-is,
-              x .table-is,
-              x .chose .rows-are,
-              x .chose .counted,
-              w .as-many,
-            )
+          took-is : took ≡ ws
+          took-is = again-asked s z table refl (pairs-room enough) q element name
+
+          pub rows-room : length rows < 18_446_744_073_709_551_616 → Room true (8 * written) (length took) rows
+          rows-room small = record { fits = λ _. omega (arith, ap length took-is); sized = small; counts = λ t. absurd (true≢false t) }
+
+          pub handed : (table′ rows′ : List ℕ) (kind n : ℕ) → table′ ≡ grown (p .at) (p .names) table (read s z) → kind ≡ kindOf (read s z) → Chose true (8 * written) took rows rows′ n
+              → passed kind n (record { place = record { at = p .at + len; names = p .names + added }; table = table′; rows = rows′; events = events + 1; written = written + n }) ≡ There
+          unfolding passing past placeAfter tableAfter
+          handed table′ rows′ kind n t k x =
+              rw (
+                le-ltb (length rows / 8) (written + length ws) fit,
+                le-ltb (length table) (2 * (p .names + length ts)) (omega (arith, w .as-many, w .names-fit)),
+                k,
+                t,
+                x .rows-are,
+                x .counted,
+                took-is,
+                again s z,
+                w .as-many,
+              )
 
 -- ---- the event at a place
 
@@ -392,29 +414,15 @@ module _ (document : List ℕ) (p : Place) (table : List ℕ) where
       abbrev r : Fits p document table
       r = fits p document table a b
 
-      abbrev from-there : List ℕ
-      from-there = take (length document - p .at) (drop (p .at) document)
-
-      pub lent-small : length from-there ≤ maxStore
-      lent-small =
-          let l = length-drop (p .at) document in
-          omega (arith, ap length (take-all (length document - p .at) (drop (p .at) document) (omega arith)), r .at-fits, r .document-small)
-
-      pub names-fit : 2 * p .names ≤ length table
-      names-fit = r .names-fit
-
-      lent-event : event (sound (p .names) table (length document)) (p .names) from-there ≡ at-place
-      unfolding itemsAt
-      lent-event =
-          ap (event (sound (p .names) table (length document)) (p .names)) (take-all (length document - p .at) (drop (p .at) document) (omega (arith, length-drop (p .at) document)))
-
-      module _ (ne : p .at ≡ length document → ⊥) (m : Measure) (e : m ≡ measure true (p .names) (event (sound (p .names) table (length document)) (p .names) from-there)) where
-        measured : m ≡ measure true (p .names) at-place
-        measured = e ∙ ap (measure true (p .names)) lent-event
+      module _ (ne : p .at ≡ length document → ⊥) (s : List ℕ) (z : s ≡ drop (p .at) document) (m : Measure) (e : m ≡ measured true (p .names) (length document) table s) where
+        measured-is : m ≡ measure true (p .names) at-place
+        unfolding measured itemsAt
+        measured-is =
+            e ∙ rw (z, le-ltb maxStore (length (drop (p .at) document)) (omega (arith, length-drop (p .at) document, r .document-small)), le-ltb (length table) (2 * p .names) (r .names-fit))
 
         result-is : m .result ≡ outcome true at-place
         unfolding measure
-        result-is = ap (λ (x : Measure). x .result) measured
+        result-is = ap (λ (x : Measure). x .result) measured-is
 
         pub seen-goes : m .result ≡ seen document p table
         unfolding seen
@@ -424,8 +432,8 @@ module _ (document : List ℕ) (p : Place) (table : List ℕ) where
         unfolding measure
         whole-at n k = record {
           ended = complete-ended true n at-place (sym result-is ∙ k);
-          rows-are = ap (λ (x : Measure). x .rows) measured;
-          as-many = ap (λ (x : Measure). x .added) measured;
+          rows-are = ap (λ (x : Measure). x .rows) measured-is;
+          as-many = ap (λ (x : Measure). x .added) measured-is;
           at-fits = r .at-fits;
           names-fit = r .names-fit;
           document-small = r .document-small;

@@ -9,11 +9,11 @@ use lib.Seq.{sets}
 use lib.Dec.{ltb, eqb}
 use Rattle.wire.specs.Refusal.{badSize, badState}
 use Rattle.wire.specs.Limits.{maxStore, maxTable}
-use Rattle.scanner.specs.Keep.{Ended}
 use Rattle.grammar.specs.Grammar.{Items, item, whole, lacks, stops}
 use Rattle.grammar.specs.Scan.{itemWords, adds, pairs, Outcome, complete, incomplete, bad, outcome}
 use Rattle.grammar.specs.Scan as Scan
 use Rattle.grammar.specs.Choice.{byTest}
+use Rattle.grammar.specs.Attributes.{Ended}
 use Rattle.slice_spec.specs.Queries as Defined
 use Rattle.slice_spec.specs.Queries.{Words, named, isElement, concat, Progress, done, refused, tableWith}
 use Rattle.slice_spec.specs.Slice.{Place, sizesBad, placeBad, itemsAt}
@@ -25,7 +25,6 @@ use Rattle.scanner.specs.declared.select.Picked.the-variants as Picked
 use Rattle.scanner.specs.declared.select.Uncounted.{Uncounted}
 use Rattle.scanner.specs.declared.select.Uncounted.the-variants as Uncounted
 use Rattle.scanner.specs.declared.select.Extent.{Extent}
-use Rattle.scanner.specs.declared.select.Took.{Took}
 use Rattle.scanner.specs.declared.select.Seen.{Seen}
 use Rattle.scanner.specs.declared.select.Seen.the-variants as Seen
 
@@ -76,6 +75,10 @@ chosen q document element name [] = []
 chosen q document element name (w ∷ ws) =
     cond (isElement document element w) (cond (takesAll q) (w ∷ []) [] ++ taken (takesAll q) (takesOne q) document name ws) []
 
+-- the table with the new names of these rows, which lie in an input that stands in its store from `base` on
+abbrev pub grown : ℕ → ℕ → List ℕ → Items → List ℕ
+grown base names table is = sets table (2 * names) (pairs base (adds names is))
+
 -- where rows are written, there is room for so many from a word on; else they are counted from 0 on
 pub record Room (write : Bool) (to n : ℕ) (rows : List ℕ) : Type 0 where
   pub fits : write ≡ true → to + 8 * n ≤ length rows
@@ -125,16 +128,6 @@ pub record Whole (document : List ℕ) (p : Place) (table : List ℕ) (is : Item
 
 abbrev pub WholeAt : List ℕ → ℕ → ℕ → List ℕ → Extent → Type 0
 WholeAt document at names table extent = Whole document (placeOf at names) table (itemsAt (placeOf at names) document table) (extent .rows) (extent .added)
-
--- what is left of an event that was handed out: its rows that are taken, its kind, and the table with its names
-pub record Handed (document : List ℕ) (p : Place) (table table′ rows rows′ : List ℕ) (is : Items) (written : ℕ) (ws : List Words) (kind n : ℕ) : Type 0 where
-  pub chose : Chose true (8 * written) ws rows rows′ n
-  pub kind-is : kind ≡ Defined.kindOf is
-  pub table-is : table′ ≡ sets table (2 * p .names) (pairs (p .at) (adds (p .names) is))
-
-abbrev pub HandedAt : Query → List ℕ → List ℕ → List ℕ → ℕ → ℕ → List ℕ → List ℕ → List ℕ → List ℕ → ℕ → Took → Type 0
-HandedAt q element name document at names table table′ rows rows′ written took =
-    Handed document (placeOf at names) table table′ rows rows′ (itemsAt (placeOf at names) document table) written (askedAt q element name document at names table) (took .kind) (took .rows)
 
 -- the turn over an event of so many bytes that was read whole
 abbrev pub passes : Query → List ℕ → List ℕ → List ℕ → Progress → ℕ → Turn

@@ -10,7 +10,6 @@ use Rattle.wire.specs.Refusal.{badSize, badState, rowsFull, poolFull, namesFull
 use Rattle.wire.specs.Limits.{maxStore}
 use Rattle.grammar.specs.Grammar.{Span, Items, event}
 use Rattle.grammar.specs.Scan.{sound, adds, lengths, pairs, copiedPairs, joined, count, words, Outcome, complete, incomplete, bad, outcome}
-use Rattle.scanner.specs.declared.fields.Pool.{Pool}
 use Rattle.quick.specs.declared.Taken.{Taken}
 use Rattle.scanner.specs.declared.Stepped.{Stepped}
 use Rattle.scanner.specs.declared.Stepped.the-variants as Stepped
@@ -82,16 +81,15 @@ module _ (s : List ℕ) (base : ℕ) (finished copied : Bool) (names used : ℕ)
 
 -- ---- the two passes, for a private function: what 17 and 19 leave, and what it then reads
 
-pub record Ready (base : ℕ) (copied : Bool) (pool : Pool) (used : ℕ) (s table store : List ℕ) : Type 0 where
+pub record Placed (base : ℕ) (copied : Bool) (names used : ℕ) (s table store : List ℕ) : Type 0 where
   pub in-store : base + length s ≤ maxStore
-  pub all-kept : pool .kept ≡ pool .names
-  pub names-fit : 2 * pool .names ≤ length table
+  pub names-fit : 2 * names ≤ length table
   pub used-fit : copied ≡ true → (used ≤ length store) × (length store ≤ maxStore)
 
-unfoldable pub readBy : Bool → Bool → ℕ → Pool → ℕ → List ℕ → List ℕ → List ℕ → List ℕ → Left
-readBy finished copied base pool used s table store rows =
-    let is : Items = event (sound (pool .kept) table (pool .stored)) (pool .names) s in
-    byOutcome s base finished copied (pool .names) used table store rows is (outcome finished is)
+unfoldable pub readBy : Bool → Bool → ℕ → ℕ → ℕ → List ℕ → List ℕ → List ℕ → List ℕ → Left
+readBy finished copied base names used s table store rows =
+    let is : Items = event (sound names table (cond copied (length store) (base + length s))) names s in
+    byOutcome s base finished copied names used table store rows is (outcome finished is)
 
 -- ---- the quick way
 

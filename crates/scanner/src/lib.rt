@@ -1,25 +1,18 @@
-// The scanner of both readers: the step that reads an event in two passes, the first of which measures and the second writes, after the
-// quick way of crate quick was tried. Modules fields and items have the readers, measure and lean the first pass, write and fill the
-// second; module select takes the rows of an event that a query asks for. A place is counted from the event's first byte, where the slice
-// starts.
-mod fields;
+// The scanner of both readers: the step that reads an event in two passes, the first of which measures (crate extent) and the second, in
+// module fill, keeps names and writes rows, after the quick way of crate quick was tried. Module select takes the rows of an event that a
+// query asks for. A place is counted from the event's first byte, where the slice starts.
 mod fill;
-mod items;
-mod lean;
-mod measure;
 pub mod select;
-mod write;
 
-use fields::Pool;
-use measure::Outcome;
+use extent::Outcome;
+use fill::Home;
+use fill::Kept;
 use quick::Taken;
 use wire::Refusal;
 use wire::limits;
 ghost use mathlib.Core.Bool.{cond};
 ghost use mathlib.Core.Path.{_≡_};
-ghost use Rattle.wire.specs.Token.{builtIn};
-ghost use Rattle.grammar.specs.Scan.{words};
-ghost use Rattle.scanner.specs.Step.{SteppedQuickly, Ready, readBy, stepOf, step, tooLong, outside};
+ghost use Rattle.scanner.specs.Step.{SteppedQuickly, Placed, readBy, stepOf, step, tooLong, outside};
 
 // ---- one event
 
@@ -37,24 +30,33 @@ pub enum Stepped {
     Refused(Refusal),
 }
 
+// How many bytes the store of the pool's names has.
+fn stored_in(copied: bool, store: usize, end: usize) -> usize
+    ensures { λ r. ⌜ r ≡ cond copied store end ⌝ }
+{
+    if copied {
+        return store;
+    }
+    end
+}
+
 // The two passes over the event that stands in s.
 fn read(
     s: &[u8],
     base: usize,
     finished: bool,
     copied: bool,
-    tokens: &[u16; 256],
-    pool: Pool,
+    names: usize,
     used: usize,
     table: &mut [u32],
     store: &mut [u8],
     rows: &mut [u32],
 ) -> Stepped
-    requires { ⌜ now tokens ≡ builtIn ⌝ }
-    requires { ⌜ Ready base copied pool used (now s) (now table) (now store) ⌝ }
-    ensures { λ r. ⌜ stepOf (now (table .exit)) (now (store .exit)) (now (rows .exit)) r ≡ readBy finished copied base pool used (now (s .entry)) (now (table .entry)) (now (store .entry)) (now (rows .entry)) ⌝ }
+    requires { ⌜ Placed base copied names used (now s) (now table) (now store) ⌝ }
+    ensures { λ r. ⌜ stepOf (now (table .exit)) (now (store .exit)) (now (rows .exit)) r ≡ readBy finished copied base names used (now (s .entry)) (now (table .entry)) (now (store .entry)) (now (rows .entry)) ⌝ }
 {
-    let m = measure::measure(s, finished, tokens, table, pool);
+    let stored = stored_in(copied, store.len(), base + s.len());
+    let m = extent::measure(s, finished, names, stored, table);
     let outcome = m.outcome;
     match outcome {
         Outcome::Incomplete => Stepped::Incomplete,
@@ -63,26 +65,23 @@ fn read(
             if rows.len() / 8 < m.rows {
                 return Stepped::Refused(Refusal::new(Refusal::ROWS_FULL));
             }
-            if table.len() / 2 - pool.names < m.added {
+            if table.len() / 2 - names < m.added {
                 return Stepped::Refused(Refusal::new(Refusal::POOL_FULL));
             }
             if copied {
                 if store.len() - used < m.bytes {
                     return Stepped::Refused(Refusal::new(Refusal::NAMES_FULL));
                 }
-                write::write_copied(s, base, tokens, table, pool, m.added, store, used, rows);
-                return Stepped::Event {
-                    spare: Refusal {
-                        number: 0,
-                        detail: 0,
-                    },
-                    rows: m.rows,
-                    len,
-                    added: m.added,
-                    bytes: m.bytes,
-                };
             }
-            fill::fill(s, base, tokens, table, pool, rows);
+            fill::fill(
+                s,
+                0,
+                Home { base, copied },
+                table,
+                store,
+                Kept { names, used },
+                rows,
+            );
             Stepped::Event {
                 spare: Refusal {
                     number: 0,
@@ -125,16 +124,6 @@ fn is_outside(words: usize, names: usize, copied: bool, used: usize, store: usiz
         return store < used;
     }
     false
-}
-
-// How many bytes the store of the pool's names has.
-fn stored_in(copied: bool, store: usize, end: usize) -> usize
-    ensures { λ r. ⌜ r ≡ cond copied store end ⌝ }
-{
-    if copied {
-        return store;
-    }
-    end
 }
 
 // The step below, the quick way. A length of 0: it declined, and nothing is written.
@@ -180,24 +169,7 @@ pub fn step_read(
     if is_outside(table.len(), names, copied, used, store.len()) {
         return Stepped::Refused(Refusal::new(Refusal::BAD_STATE));
     }
-    let pool = Pool {
-        kept: names,
-        stored: stored_in(copied, store.len(), base + s.len()),
-        names,
-    };
-    let tokens = wire::tokens::built_in();
-    read(
-        s,
-        base,
-        finished,
-        copied,
-        &tokens,
-        pool,
-        used,
-        table,
-        store,
-        rows,
-    )
+    read(s, base, finished, copied, names, used, table, store, rows)
 }
 
 // The event that stands in s, read and, where there is room, written. s lies in its store from base on. Where names are

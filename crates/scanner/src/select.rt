@@ -1,24 +1,22 @@
 // One event of a query: it is measured as by a reader, and of its rows only those that the query asks for are written.
-use crate::fields::Pool;
-use crate::items::Item;
-use crate::measure::Outcome;
+use extent::Outcome;
 use wire::Command;
 use wire::Refusal;
-ghost use mathlib.Core.Bool.{true, false, _||_, cond};
+ghost use mathlib.Core.Bool.{true, false, _||_, _&&_, not, cond};
 ghost use mathlib.Core.List.{[], _∷_};
 ghost use mathlib.Core.Path.{_≡_};
 ghost use Prim.Native.Nat.{ℕ, _+_, _*_, _/_, _≤_, _<_};
-ghost use lib.ListN.{length};
-ghost use lib.Dec.{ltb};
+ghost use lib.ListN.{length, take, drop};
+ghost use lib.Dec.{ltb, eqb};
 ghost use lib.Seq.{sets};
-ghost use Rattle.wire.specs.Token.{builtIn};
-ghost use Rattle.grammar.specs.Scan.{itemWords, adds, pairs};
+ghost use Rattle.grammar.specs.Grammar.{event};
+ghost use Rattle.grammar.specs.Scan.{adds};
+ghost use Rattle.grammar.specs.Turn.{rest};
+ghost use Rattle.grammar.specs.Trusted.{always};
 ghost use Rattle.slice_spec.specs.Queries.{named, isElement, kindOf};
-ghost use Rattle.scanner.specs.Answers.{itemOf};
-ghost use Rattle.scanner.specs.Keep.{ItemPlaced, Keepable};
 ghost use Rattle.slice_spec.specs.Turns.{turnOrRefuse};
-ghost use Rattle.scanner.specs.Select.{queryOf, mostOf, takesAll, takesOne, taken, chosen, rowsOf, Room, Chose, placeOf, askedAt, WholeAt, HandedAt, progress, turnOf, passes, Sees, uncountedOf, surely, uncounted};
-ghost use Rattle.scanner.specs.Turn.{attributesOf, eventOf};
+ghost use Rattle.scanner.specs.Fill.{ReadyAt};
+ghost use Rattle.scanner.specs.Select.{queryOf, mostOf, takesAll, takesOne, taken, chosen, rowsOf, grown, Room, Chose, placeOf, askedAt, WholeAt, progress, turnOf, passes, Sees, uncountedOf, surely, uncounted};
 
 // What is asked for: attributes of a name, of elements of a name; or such elements with all their attributes.
 pub enum Query {
@@ -60,25 +58,23 @@ enum Seen {
 // ---- which rows
 
 // Whether a row has this name, which lies in the document.
-fn is_named(document: &[u8], base: usize, table: &[u32], item: Item, name: &[u8]) -> bool
-    requires { ⌜ ItemPlaced base (now table) (itemOf item) ⌝ }
-    ensures { λ r. ⌜ r ≡ named (now (document .entry)) (now (name .entry)) (itemWords 0 base (now (table .entry)) (itemOf item)) ⌝ }
+fn is_named(document: &[u8], row: &[u32], name: &[u8]) -> bool
+    requires { ⌜ length (now row) ≡ 8 ⌝ }
+    ensures { λ r. ⌜ r ≡ named (now (document .entry)) (now (name .entry)) (now (row .entry)) ⌝ }
 {
-    if event::has_name(item.kind) {
-        let reference = item.name;
-        let words = crate::write::name_words(0, base, table, reference);
-        return event::same_bytes(event::text(document, words.source, words.a, words.b), name);
+    if event::has_name(row[0]) {
+        return event::same_bytes(event::text(document, row[1], row[2], row[3]), name);
     }
     name.len() == 0
 }
 
 // Whether it is the start tag of an element of this name.
-fn is_element(document: &[u8], base: usize, table: &[u32], item: Item, element: &[u8]) -> bool
-    requires { ⌜ ItemPlaced base (now table) (itemOf item) ⌝ }
-    ensures { λ r. ⌜ r ≡ isElement (now (document .entry)) (now (element .entry)) (itemWords 0 base (now (table .entry)) (itemOf item)) ⌝ }
+fn is_element(document: &[u8], row: &[u32], element: &[u8]) -> bool
+    requires { ⌜ length (now row) ≡ 8 ⌝ }
+    ensures { λ r. ⌜ r ≡ isElement (now (document .entry)) (now (element .entry)) (now (row .entry)) ⌝ }
 {
-    if item.kind == Command::START_TAG {
-        return is_named(document, base, table, item, element);
+    if row[0] == Command::START_TAG {
+        return is_named(document, row, element);
     }
     false
 }
@@ -109,95 +105,114 @@ fn takes_one(query: Query) -> bool
 
 // ---- rows that are taken are counted, and stored where they are to be written
 
-fn put_taken(write: bool, rows: &mut [u32], to: usize, base: usize, table: &[u32], item: Item)
+fn put_taken(write: bool, rows: &mut [u32], to: usize, row: &[u32])
     requires { ⌜ (write ≡ true → to + 8 ≤ length (now rows)) ⌝ }
-    requires { ⌜ ItemPlaced base (now table) (itemOf item) ⌝ }
-    ensures { λ _. ⌜ now (rows .exit) ≡ cond write (sets (now (rows .entry)) to (itemWords 0 base (now (table .entry)) (itemOf item))) (now (rows .entry)) ⌝ }
+    requires { ⌜ length (now row) ≡ 8 ⌝ }
+    ensures { λ _. ⌜ now (rows .exit) ≡ cond write (sets (now (rows .entry)) to (now (row .entry))) (now (rows .entry)) ⌝ }
 {
     if write {
-        crate::write::put_item(rows, to, 0, base, table, item);
+        rows[to] = row[0];
+        rows[to + 1] = row[1];
+        rows[to + 2] = row[2];
+        rows[to + 3] = row[3];
+        rows[to + 4] = row[4];
+        rows[to + 5] = row[5];
+        rows[to + 6] = row[6];
+        rows[to + 7] = row[7];
     }
 }
 
-// Whether an attribute is taken: every one, or those of this name.
-fn is_taken(all: bool, document: &[u8], base: usize, table: &[u32], item: Item, name: &[u8]) -> bool
-    requires { ⌜ ItemPlaced base (now table) (itemOf item) ⌝ }
-    ensures { λ r. ⌜ r ≡ (all || named (now (document .entry)) (now (name .entry)) (itemWords 0 base (now (table .entry)) (itemOf item))) ⌝ }
+// Whether an attribute is taken by a query that still looks for one: every one, or those of this name.
+fn is_taken(looking: bool, all: bool, document: &[u8], row: &[u32], name: &[u8]) -> bool
+    requires { ⌜ length (now row) ≡ 8 ⌝ }
+    ensures { λ r. ⌜ r ≡ (looking && (all || named (now (document .entry)) (now (name .entry)) (now (row .entry)))) ⌝ }
 {
-    if all {
-        return true;
+    if looking {
+        if all {
+            return true;
+        }
+        return is_named(document, row, name);
     }
-    is_named(document, base, table, item, name)
+    false
 }
 
-// The attributes from a place on: how many are taken.
+// Whether nothing is left to do with an event: no row is looked for, and it adds no name.
+fn is_done(looking: bool, still: bool) -> bool
+    ensures { λ r. ⌜ r ≡ (not looking && still) ⌝ }
+{
+    if looking {
+        return false;
+    }
+    still
+}
+
+// The attributes from a place on: their new names are kept, and how many are taken. still says that there are no new names.
 fn take_rest(
     s: &[u8],
     from: usize,
     base: usize,
-    tokens: &[u16; 256],
-    table: &[u32],
-    start: Pool,
+    table: &mut [u32],
+    start: usize,
     document: &[u8],
     name: &[u8],
+    look: bool,
     all: bool,
     one: bool,
+    still: bool,
     write: bool,
     rows: &mut [u32],
     to: usize,
 ) -> usize
-    requires { ⌜ from ≤ length (now s) ⌝ }
-    requires { ⌜ now tokens ≡ builtIn ⌝ }
-    requires { ⌜ Keepable base (now s) (attributesOf start (now table) (now s) from) start (now table) ⌝ }
-    requires { ⌜ Room write to (length (taken all one (now document) (now name) (rowsOf base (now table) (attributesOf start (now table) (now s) from)))) (now rows) ⌝ }
+    requires { ⌜ (0 < from) × (from ≤ length (now s)) ⌝ }
+    requires { ⌜ ReadyAt base (now s) start (rest always (now s) start from) (now table) ⌝ }
+    requires { ⌜ (still ≡ true → length (adds start (rest always (now s) start from)) ≡ 0) ⌝ }
+    requires { ⌜ Room write to (length (cond look (taken all one (now document) (now name) (rowsOf base (grown base start (now table) (rest always (now s) start from)) (rest always (now s) start from))) [])) (now rows) ⌝ }
     ensures few { λ r. ⌜ r ≤ length (now (s .entry)) ⌝ }
-    ensures rows { λ r. ⌜ Chose write to (taken all one (now (document .entry)) (now (name .entry)) (rowsOf base (now (table .entry)) (attributesOf start (now (table .entry)) (now (s .entry)) from))) (now (rows .entry)) (now (rows .exit)) r ⌝ }
+    ensures names { λ r. ⌜ now (table .exit) ≡ grown base start (now (table .entry)) (rest always (now (s .entry)) start from) ⌝ }
+    ensures rows { λ r. ⌜ Chose write to (cond look (taken all one (now (document .entry)) (now (name .entry)) (rowsOf base (grown base start (now (table .entry)) (rest always (now (s .entry)) start from)) (rest always (now (s .entry)) start from))) []) (now (rows .entry)) (now (rows .exit)) r ⌝ }
 {
     let mut at = from;
-    let mut pool = start;
+    let mut names = start;
+    let mut looking = look;
     let mut count = 0;
-    while crate::items::is_attribute(s, at, tokens) {
-        let row = crate::items::row_of(crate::items::attribute_at(
-            s,
-            at,
-            false,
-            tokens,
-            table,
-            pool,
-        ));
-        let item = row.item;
-        pool = crate::items::after_item(pool, item);
-        at = row.next;
-        if is_taken(all, document, base, table, item, name) {
-            put_taken(write, rows, to + 8 * count, base, table, item);
+    let mut row = [0u32; 8];
+    while crate::fill::is_attribute(s, at) {
+        if is_done(looking, still) {
+            return count;
+        }
+        let ahead = crate::fill::one(s, at, base, table, names, &mut row);
+        let kept = ahead.kept;
+        names = kept.names;
+        at = ahead.next;
+        if is_taken(looking, all, document, &row, name) {
+            put_taken(write, rows, to + 8 * count, &row);
             count += 1;
-            if one {
-                return count;
-            }
+            looking = !one;
         }
     }
     count
 }
 
 // The tag's own row, where it is taken.
-fn take_first(
-    all: bool,
-    write: bool,
-    rows: &mut [u32],
-    to: usize,
-    base: usize,
-    table: &[u32],
-    item: Item,
-) -> usize
-    requires { ⌜ (all ≡ true → write ≡ true → to + 8 ≤ length (now rows)) ⌝ }
-    requires { ⌜ ItemPlaced base (now table) (itemOf item) ⌝ }
-    ensures { λ r. ⌜ Chose write to (cond all (itemWords 0 base (now (table .entry)) (itemOf item) ∷ []) []) (now (rows .entry)) (now (rows .exit)) r ⌝ }
+fn take_first(own: bool, write: bool, rows: &mut [u32], to: usize, row: &[u32]) -> usize
+    requires { ⌜ (own ≡ true → write ≡ true → to + 8 ≤ length (now rows)) ⌝ }
+    requires { ⌜ length (now row) ≡ 8 ⌝ }
+    ensures { λ r. ⌜ Chose write to (cond own (now (row .entry) ∷ []) []) (now (rows .entry)) (now (rows .exit)) r ⌝ }
 {
-    if all {
-        put_taken(write, rows, to, base, table, item);
+    if own {
+        put_taken(write, rows, to, row);
         return 1;
     }
     0
+}
+
+fn both(a: bool, b: bool) -> bool
+    ensures { λ r. ⌜ r ≡ (a && b) ⌝ }
+{
+    if a {
+        return b;
+    }
+    false
 }
 
 // An event's kind, and how many of its rows are taken.
@@ -206,7 +221,7 @@ pub struct Took {
     pub rows: usize,
 }
 
-// The rows of the event that are taken. The table has the event's new names, too.
+// The event's new names are kept, and the rows that are taken. still says that it adds none.
 fn take_event(
     query: Query,
     element: &[u8],
@@ -214,45 +229,51 @@ fn take_event(
     document: &[u8],
     s: &[u8],
     base: usize,
-    tokens: &[u16; 256],
-    table: &[u32],
-    pool: Pool,
+    table: &mut [u32],
+    names: usize,
+    still: bool,
     write: bool,
     rows: &mut [u32],
     to: usize,
 ) -> Took
-    requires { ⌜ now tokens ≡ builtIn ⌝ }
-    requires { ⌜ Keepable base (now s) (eventOf pool (now table) (now s)) pool (now table) ⌝ }
-    requires { ⌜ Room write to (length (chosen query (now document) (now element) (now name) (rowsOf base (now table) (eventOf pool (now table) (now s))))) (now rows) ⌝ }
+    requires { ⌜ ReadyAt base (now s) names (event always names (now s)) (now table) ⌝ }
+    requires { ⌜ (still ≡ true → length (adds names (event always names (now s))) ≡ 0) ⌝ }
+    requires { ⌜ Room write to (length (chosen query (now document) (now element) (now name) (rowsOf base (grown base names (now table) (event always names (now s))) (event always names (now s))))) (now rows) ⌝ }
     requires { ⌜ (write ≡ false → to ≡ 0) ⌝ }
-    ensures rows { λ r. ⌜ Chose write to (chosen query (now (document .entry)) (now (element .entry)) (now (name .entry)) (rowsOf base (now (table .entry)) (eventOf pool (now (table .entry)) (now (s .entry))))) (now (rows .entry)) (now (rows .exit)) (r .rows) ⌝ }
-    ensures kind { λ r. ⌜ r .kind ≡ kindOf (eventOf pool (now (table .entry)) (now (s .entry))) ⌝ }
+    ensures rows { λ r. ⌜ Chose write to (chosen query (now (document .entry)) (now (element .entry)) (now (name .entry)) (rowsOf base (grown base names (now (table .entry)) (event always names (now (s .entry)))) (event always names (now (s .entry))))) (now (rows .entry)) (now (rows .exit)) (r .rows) ⌝ }
+    ensures kind { λ r. ⌜ r .kind ≡ kindOf (event always names (now (s .entry))) ⌝ }
+    ensures names { λ r. ⌜ now (table .exit) ≡ grown base names (now (table .entry)) (event always names (now (s .entry))) ⌝ }
 {
-    let row = crate::items::row_of(crate::items::first_at(s, false, tokens, table, pool));
-    let item = row.item;
-    let kind = item.kind;
-    if is_element(document, base, table, item, element) {
-        let all = takes_all(query);
-        let first = take_first(all, write, rows, to, base, table, item);
-        let rest = take_rest(
-            s,
-            row.next,
-            base,
-            tokens,
-            table,
-            crate::items::after_item(pool, item),
-            document,
-            name,
-            all,
-            takes_one(query),
-            write,
-            rows,
-            to + 8 * first,
-        );
-        let both = first + rest;
-        return Took { kind, rows: both };
+    let mut row = [0u32; 8];
+    let ahead = crate::fill::one(s, 0, base, table, names, &mut row);
+    let kept = ahead.kept;
+    let kind = row[0];
+    if kind != Command::START_TAG {
+        return Took { kind, rows: 0 };
     }
-    Took { kind, rows: 0 }
+    let look = is_element(document, &row, element);
+    let all = takes_all(query);
+    let first = take_first(both(look, all), write, rows, to, &row);
+    let more = take_rest(
+        s,
+        ahead.next,
+        base,
+        table,
+        kept.names,
+        document,
+        name,
+        look,
+        all,
+        takes_one(query),
+        still,
+        write,
+        rows,
+        to + 8 * first,
+    );
+    Took {
+        kind,
+        rows: first + more,
+    }
 }
 
 // ---- an event that was read whole
@@ -264,8 +285,56 @@ pub struct Extent {
     pub len: usize,
 }
 
-// How many rows are taken, by a copy of the pool's pairs that has the event's new names, too.
+// The first n words of one slice to the front of another.
+fn put_words(to: &mut [u32], words: &[u32], n: usize)
+    requires { ⌜ n ≤ length (now words) ⌝ }
+    requires { ⌜ n ≤ length (now to) ⌝ }
+    ensures { λ _. ⌜ now (to .exit) ≡ sets (now (to .entry)) 0 (take n (now (words .entry))) ⌝ }
+{
+    let mut i = 0;
+    while i < n {
+        to[i] = words[i];
+        i += 1;
+    }
+}
+
+// How many rows are taken, by a table that has room for the event's new names.
 fn count_by(
+    query: Query,
+    element: &[u8],
+    name: &[u8],
+    document: &[u8],
+    at: usize,
+    names: usize,
+    table: &mut [u32],
+    still: bool,
+) -> usize
+    requires { ⌜ at ≤ length (now document) ⌝ }
+    requires { ⌜ ReadyAt at (drop at (now document)) names (event always names (drop at (now document))) (now table) ⌝ }
+    requires { ⌜ (still ≡ true → length (adds names (event always names (drop at (now document)))) ≡ 0) ⌝ }
+    ensures rows { λ r. ⌜ r ≡ length (chosen query (now (document .entry)) (now (element .entry)) (now (name .entry)) (rowsOf at (grown at names (now (table .entry)) (event always names (drop at (now (document .entry))))) (event always names (drop at (now (document .entry)))))) ⌝ }
+    ensures names { λ r. ⌜ now (table .exit) ≡ grown at names (now (table .entry)) (event always names (drop at (now (document .entry)))) ⌝ }
+{
+    let mut none = [0u32; 1];
+    let took = take_event(
+        query,
+        element,
+        name,
+        document,
+        &document[at..],
+        at,
+        table,
+        names,
+        still,
+        false,
+        &mut none,
+        0,
+    );
+    took.rows
+}
+
+// The same, by a copy of the pool's pairs.
+fn count_aside(
     own: &mut [u32],
     query: Query,
     element: &[u8],
@@ -273,39 +342,15 @@ fn count_by(
     document: &[u8],
     at: usize,
     names: usize,
-    tokens: &[u16; 256],
     table: &[u32],
     extent: Extent,
 ) -> usize
     requires { ⌜ 131_072 ≤ length (now own) ⌝ }
-    requires { ⌜ now tokens ≡ builtIn ⌝ }
     requires { ⌜ WholeAt (now document) at names (now table) extent ⌝ }
     ensures { λ r. ⌜ r ≡ length (askedAt query (now (element .entry)) (now (name .entry)) (now (document .entry)) at names (now (table .entry))) ⌝ }
 {
-    let s = &document[at..];
-    let pool = Pool {
-        kept: names,
-        stored: document.len(),
-        names,
-    };
-    crate::write::put_words(own, table, 2 * names);
-    crate::write::keep(s, at, tokens, own, pool);
-    let mut none = [0u32; 1];
-    let took = take_event(
-        query,
-        element,
-        name,
-        document,
-        s,
-        at,
-        tokens,
-        own,
-        pool,
-        false,
-        &mut none,
-        0,
-    );
-    took.rows
+    put_words(own, table, 2 * names);
+    count_by(query, element, name, document, at, names, own, false)
 }
 
 // How many rows are taken. The table may have no room for the event's new names, and is left as it is.
@@ -316,39 +361,18 @@ fn count_taken(
     document: &[u8],
     at: usize,
     names: usize,
-    tokens: &[u16; 256],
-    table: &[u32],
+    table: &mut [u32],
     extent: Extent,
 ) -> usize
-    requires { ⌜ now tokens ≡ builtIn ⌝ }
     requires { ⌜ WholeAt (now document) at names (now table) extent ⌝ }
-    ensures { λ r. ⌜ r ≡ length (askedAt query (now (element .entry)) (now (name .entry)) (now (document .entry)) at names (now (table .entry))) ⌝ }
+    ensures rows { λ r. ⌜ r ≡ length (askedAt query (now (element .entry)) (now (name .entry)) (now (document .entry)) at names (now (table .entry))) ⌝ }
+    ensures names { λ r. ⌜ now (table .exit) ≡ now (table .entry) ⌝ }
 {
     if extent.added == 0 {
-        let pool = Pool {
-            kept: names,
-            stored: document.len(),
-            names,
-        };
-        let mut none = [0u32; 1];
-        let took = take_event(
-            query,
-            element,
-            name,
-            document,
-            &document[at..],
-            at,
-            tokens,
-            table,
-            pool,
-            false,
-            &mut none,
-            0,
-        );
-        return took.rows;
+        return count_by(query, element, name, document, at, names, table, true);
     }
     let mut own = [0u32; 131_072];
-    count_by(
+    count_aside(
         &mut own,
         query,
         element,
@@ -356,7 +380,6 @@ fn count_taken(
         document,
         at,
         names,
-        tokens,
         table,
         extent,
     )
@@ -370,68 +393,6 @@ fn most_taken(query: Query, count: usize) -> usize
         return 1;
     }
     count
-}
-
-// The event's new names are stored; where it adds none, it is not walked.
-fn keep_added(
-    s: &[u8],
-    base: usize,
-    tokens: &[u16; 256],
-    table: &mut [u32],
-    pool: Pool,
-    added: usize,
-)
-    requires { ⌜ now tokens ≡ builtIn ⌝ }
-    requires { ⌜ Keepable base (now s) (eventOf pool (now table) (now s)) pool (now table) ⌝ }
-    requires { ⌜ added ≡ length (adds (pool .names) (eventOf pool (now table) (now s))) ⌝ }
-    ensures { λ _. ⌜ now (table .exit) ≡ sets (now (table .entry)) (2 * pool .names) (pairs base (adds (pool .names) (eventOf pool (now (table .entry)) (now (s .entry))))) ⌝ }
-{
-    if added != 0 {
-        crate::write::keep(s, base, tokens, table, pool);
-    }
-}
-
-// The event's new names are stored, then the rows that are taken.
-fn hand_out(
-    query: Query,
-    element: &[u8],
-    name: &[u8],
-    document: &[u8],
-    at: usize,
-    names: usize,
-    tokens: &[u16; 256],
-    table: &mut [u32],
-    rows: &mut [u32],
-    written: usize,
-    extent: Extent,
-) -> Took
-    requires { ⌜ now tokens ≡ builtIn ⌝ }
-    requires { ⌜ WholeAt (now document) at names (now table) extent ⌝ }
-    requires { ⌜ 2 * (names + extent .added) ≤ length (now table) ⌝ }
-    requires { ⌜ Room true (8 * written) (length (askedAt query (now element) (now name) (now document) at names (now table))) (now rows) ⌝ }
-    ensures { λ r. ⌜ HandedAt query (now (element .entry)) (now (name .entry)) (now (document .entry)) at names (now (table .entry)) (now (table .exit)) (now (rows .entry)) (now (rows .exit)) written r ⌝ }
-{
-    let s = &document[at..];
-    let pool = Pool {
-        kept: names,
-        stored: document.len(),
-        names,
-    };
-    keep_added(s, at, tokens, table, pool, extent.added);
-    take_event(
-        query,
-        element,
-        name,
-        document,
-        s,
-        at,
-        tokens,
-        table,
-        pool,
-        true,
-        rows,
-        8 * written,
-    )
 }
 
 // Whether fewer rows are left than these.
@@ -452,13 +413,11 @@ fn pick_fitting(
     document: &[u8],
     at: usize,
     names: usize,
-    tokens: &[u16; 256],
     table: &mut [u32],
     rows: &mut [u32],
     written: usize,
     extent: Extent,
 ) -> Picked
-    requires { ⌜ now tokens ≡ builtIn ⌝ }
     requires { ⌜ WholeAt (now document) at names (now table) extent ⌝ }
     requires { ⌜ written + length (askedAt query (now element) (now name) (now document) at names (now table)) ≤ length (now rows) / 8 ⌝ }
     ensures { λ r. ⌜ ((events : ℕ) → turnOf (progress at names (now (table .entry)) (now (rows .entry)) events written) (now (table .exit)) (now (rows .exit)) r ≡ passes query (now (element .entry)) (now (name .entry)) (now (document .entry)) (progress at names (now (table .entry)) (now (rows .entry)) events written) (extent .len)) ⌝ }
@@ -466,18 +425,19 @@ fn pick_fitting(
     if table.len() / 2 - names < extent.added {
         return Picked::Refused(Refusal::new(Refusal::POOL_FULL));
     }
-    let took = hand_out(
+    let took = take_event(
         query,
         element,
         name,
         document,
+        &document[at..],
         at,
-        names,
-        tokens,
         table,
+        names,
+        extent.added == 0,
+        true,
         rows,
-        written,
-        extent,
+        8 * written,
     );
     Picked::Event {
         kind: took.kind,
@@ -495,13 +455,11 @@ fn pick_surely(
     document: &[u8],
     at: usize,
     names: usize,
-    tokens: &[u16; 256],
     table: &mut [u32],
     rows: &mut [u32],
     written: usize,
     extent: Extent,
 ) -> Uncounted
-    requires { ⌜ now tokens ≡ builtIn ⌝ }
     requires { ⌜ WholeAt (now document) at names (now table) extent ⌝ }
     ensures { λ r. ⌜ ((events : ℕ) → uncountedOf (progress at names (now (table .entry)) (now (rows .entry)) events written) (now (table .exit)) (now (rows .exit)) r ≡ surely query (now (element .entry)) (now (name .entry)) (now (document .entry)) (progress at names (now (table .entry)) (now (rows .entry)) events written) extent) ⌝ }
 {
@@ -519,7 +477,6 @@ fn pick_surely(
         document,
         at,
         names,
-        tokens,
         table,
         rows,
         written,
@@ -535,29 +492,18 @@ fn count_at_need(
     document: &[u8],
     at: usize,
     names: usize,
-    tokens: &[u16; 256],
-    table: &[u32],
+    table: &mut [u32],
     room: usize,
     written: usize,
     extent: Extent,
 ) -> usize
-    requires { ⌜ now tokens ≡ builtIn ⌝ }
     requires { ⌜ WholeAt (now document) at names (now table) extent ⌝ }
-    ensures { λ r. ⌜ ltb room (written + r) ≡ ltb room (written + length (askedAt query (now (element .entry)) (now (name .entry)) (now (document .entry)) at names (now (table .entry)))) ⌝ }
+    ensures rows { λ r. ⌜ ltb room (written + r) ≡ ltb room (written + length (askedAt query (now (element .entry)) (now (name .entry)) (now (document .entry)) at names (now (table .entry)))) ⌝ }
+    ensures names { λ r. ⌜ now (table .exit) ≡ now (table .entry) ⌝ }
 {
     let most = most_taken(query, extent.rows);
     if is_short(room, written, most) {
-        return count_taken(
-            query,
-            element,
-            name,
-            document,
-            at,
-            names,
-            tokens,
-            table,
-            extent,
-        );
+        return count_taken(query, element, name, document, at, names, table, extent);
     }
     most
 }
@@ -570,13 +516,11 @@ fn pick_counted(
     document: &[u8],
     at: usize,
     names: usize,
-    tokens: &[u16; 256],
     table: &mut [u32],
     rows: &mut [u32],
     written: usize,
     extent: Extent,
 ) -> Picked
-    requires { ⌜ now tokens ≡ builtIn ⌝ }
     requires { ⌜ WholeAt (now document) at names (now table) extent ⌝ }
     ensures { λ r. ⌜ ((events : ℕ) → turnOf (progress at names (now (table .entry)) (now (rows .entry)) events written) (now (table .exit)) (now (rows .exit)) r ≡ passes query (now (element .entry)) (now (name .entry)) (now (document .entry)) (progress at names (now (table .entry)) (now (rows .entry)) events written) (extent .len)) ⌝ }
 {
@@ -588,7 +532,6 @@ fn pick_counted(
         document,
         at,
         names,
-        tokens,
         table,
         room,
         written,
@@ -604,7 +547,6 @@ fn pick_counted(
         document,
         at,
         names,
-        tokens,
         table,
         rows,
         written,
@@ -614,8 +556,7 @@ fn pick_counted(
 
 // ---- the event at a place
 
-fn see(document: &[u8], at: usize, names: usize, tokens: &[u16; 256], table: &[u32]) -> Seen
-    requires { ⌜ now tokens ≡ builtIn ⌝ }
+fn see(document: &[u8], at: usize, names: usize, table: &[u32]) -> Seen
     ensures { λ r. ⌜ Sees (now (document .entry)) (placeOf at names) (now (table .entry)) r ⌝ }
 {
     if slice_bounds::sizes_bad(document, table) {
@@ -627,12 +568,7 @@ fn see(document: &[u8], at: usize, names: usize, tokens: &[u16; 256], table: &[u
     if at == document.len() {
         return Seen::End;
     }
-    let pool = Pool {
-        kept: names,
-        stored: document.len(),
-        names,
-    };
-    let m = crate::measure::measure(&document[at..], true, tokens, table, pool);
+    let m = extent::measure(&document[at..], true, names, document.len(), table);
     let outcome = m.outcome;
     match outcome {
         Outcome::Incomplete => Seen::End,
@@ -659,8 +595,7 @@ pub fn pick_uncounted(
 ) -> Uncounted
     ensures { λ r. ⌜ ((events : ℕ) → uncountedOf (progress at names (now (table .entry)) (now (rows .entry)) events written) (now (table .exit)) (now (rows .exit)) r ≡ uncounted query (now (element .entry)) (now (name .entry)) (now (document .entry)) (progress at names (now (table .entry)) (now (rows .entry)) events written)) ⌝ }
 {
-    let tokens = wire::tokens::built_in();
-    match see(document, at, names, &tokens, table) {
+    match see(document, at, names, table) {
         Seen::Whole {
             rows: count,
             added,
@@ -672,7 +607,6 @@ pub fn pick_uncounted(
             document,
             at,
             names,
-            &tokens,
             table,
             rows,
             written,
@@ -701,8 +635,7 @@ pub fn pick(
 ) -> Picked
     ensures { λ r. ⌜ ((events : ℕ) → turnOf (progress at names (now (table .entry)) (now (rows .entry)) events written) (now (table .exit)) (now (rows .exit)) r ≡ turnOrRefuse (queryOf query (now (element .entry)) (now (name .entry))) (now (document .entry)) (progress at names (now (table .entry)) (now (rows .entry)) events written)) ⌝ }
 {
-    let tokens = wire::tokens::built_in();
-    match see(document, at, names, &tokens, table) {
+    match see(document, at, names, table) {
         Seen::Whole {
             rows: count,
             added,
@@ -714,7 +647,6 @@ pub fn pick(
             document,
             at,
             names,
-            &tokens,
             table,
             rows,
             written,

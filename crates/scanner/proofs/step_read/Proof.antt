@@ -1,7 +1,5 @@
 use mathlib.Core.Path.{sym, _∙_}
-use native.Mathlib.Omega.{arith}
-use lib.ListN.{length}
-use Rattle.scanner.proofs.Stepping.{step-long, step-outside, step-ready, step-read, not-long}
+use Rattle.scanner.proofs.Stepping.{step-long, step-outside, step-placed, step-read}
 use borrow.Author.Needs.{needs}
 use Rattle.scanner.proofs.step_read.Statement.{statement}
 use Rattle.scanner.proofs.step_read.Tie as tie
@@ -28,21 +26,10 @@ returns-2 c =
     let a = c .before .before .before .before .before .before .before .before .before .args in
     step-outside (a .s .now) (a .base) (a .finished) (a .copied) (a .names) (a .used) (a .table .now) (a .store .now) (a .rows .now) (sym (c .before .before .before .before .is-too-long .ensures) ∙ c .before .before .before .if1 .left) _ _ (sym (c .before .before .is-outside .ensures) ∙ c .before .if2 .taken) (c .new2 .ensures .0) (c .new2 .ensures .1)
 
-add-stored-in : tie.Need-add-stored-in
-add-stored-in c =
-    let a = c .before .before .before .before .before .before .before .before .args in
-    omega (arith, not-long (a .base) (length (a .s .now)) (a .copied) (length (a .store .now)) (sym (c .before .before .before .is-too-long .ensures) ∙ c .before .before .if1 .left) .0)
-
-stored-in-requires : tie.Need-stored-in-requires
-stored-in-requires c κs = search needs
-
-built-in-requires : tie.Need-built-in-requires
-built-in-requires c κs = search needs
-
 read-requires : tie.Need-read-requires
 read-requires c κs =
-    let a = c .before .before .before .before .before .before .before .before .before .before .before .before .before .before .args in
-    (c .before .before .before .before .built-in .ensures, step-ready (a .s .now) (a .base) (a .finished) (a .copied) (a .names) (a .used) (a .table .now) (a .store .now) (a .rows .now) (sym (c .before .before .before .before .before .before .before .before .before .is-too-long .ensures) ∙ c .before .before .before .before .before .before .before .before .if1 .left) (sym (c .before .before .before .before .before .before .before .is-outside .ensures) ∙ c .before .before .before .before .before .before .if2 .left) _ (c .before .before .before .before .before .stored-in .ensures))
+    let a = c .before .before .before .before .before .before .before .before .before .before .before .args in
+    step-placed (a .s .now) (a .base) (a .finished) (a .copied) (a .names) (a .used) (a .table .now) (a .store .now) (a .rows .now) (sym (c .before .before .before .before .before .before .is-too-long .ensures) ∙ c .before .before .before .before .before .if1 .left) (sym (c .before .before .before .before .is-outside .ensures) ∙ c .before .before .before .if2 .left)
 
 same-length : tie.Need-same-length
 same-length c = search needs
@@ -55,8 +42,8 @@ same-length-3 c = search needs
 
 returns-3 : tie.Need-returns-3
 returns-3 c =
-    let a = c .before .before .before .before .before .before .before .before .before .before .before .before .before .before .before .before .before .before .before .before .before .args in
-    step-read (a .s .now) (a .base) (a .finished) (a .copied) (a .names) (a .used) (a .table .now) (a .store .now) (a .rows .now) (sym (c .before .before .before .before .before .before .before .before .before .before .before .before .before .before .before .before .is-too-long .ensures) ∙ c .before .before .before .before .before .before .before .before .before .before .before .before .before .before .before .if1 .left) (sym (c .before .before .before .before .before .before .before .before .before .before .before .before .before .before .is-outside .ensures) ∙ c .before .before .before .before .before .before .before .before .before .before .before .before .before .if2 .left) _ (c .before .before .before .before .before .before .before .before .before .before .before .before .stored-in .ensures) _ (c .before .before .before .before .before .before .read .ensures)
+    let a = c .before .before .before .before .before .before .before .before .before .before .before .before .before .before .before .before .before .before .args in
+    step-read (a .s .now) (a .base) (a .finished) (a .copied) (a .names) (a .used) (a .table .now) (a .store .now) (a .rows .now) (sym (c .before .before .before .before .before .before .before .before .before .before .before .before .before .is-too-long .ensures) ∙ c .before .before .before .before .before .before .before .before .before .before .before .before .if1 .left) (sym (c .before .before .before .before .before .before .before .before .before .before .before .is-outside .ensures) ∙ c .before .before .before .before .before .before .before .before .before .before .if2 .left) _ (c .before .before .before .before .before .before .read .ensures)
 
 pub step-read-spec : {M : Type 1} → statement M
 step-read-spec =
@@ -68,9 +55,6 @@ step-read-spec =
     is-outside-requires
     new-requires-2
     returns-2
-    add-stored-in
-    stored-in-requires
-    built-in-requires
     read-requires
     same-length
     same-length-2

@@ -1,115 +1,93 @@
-use mathlib.Core.Path.{refl, sym, ap, _∙_}
 use native.Mathlib.Omega.{arith}
-use Rattle.grammar.specs.Grammar.{counted}
-use Rattle.grammar.specs.Scan.{addsRef, pairs, spanWords, refWords}
-use Rattle.scanner.specs.Answers.{nameOf, poolGrown}
-use Rattle.scanner.specs.declared.fields.Pool.{Pool}
-use Rattle.scanner.proofs.Filling.{has-got, once-got, once-short, once-refused, new-stored, new-room, known-room}
+use mathlib.Core.Path.{refl, _∙_}
+use Rattle.scanner.proofs.Filling.{name-begins, new-begins, new-asks, new-filled, known-room, known-filled}
 use borrow.Author.Needs.{needs}
 use Rattle.scanner.proofs.fill.name.Statement.{statement}
 use Rattle.scanner.proofs.fill.name.Tie as tie
 
-name-at-requires : tie.Need-name-at-requires
-name-at-requires c κs =
+field-requires : tie.Need-field-requires
+field-requires c κs =
+    let a = c .before .before .before .args in
     let p = c .before .before .before .pre in
-    (p .0 .within, (omega (arith, p .0 .kept-first, p .0 .names-fit), record { again = λ _. has-got _ _ (p .1) }))
+    name-begins (a .home) (a .s .now) (a .kept) (a .at) (a .table .now) (a .store .now) (p .0) (p .1)
 
-enum-known-start : tie.Need-enum-known-start
-enum-known-start c = search needs
+cast-if1 : tie.Need-cast-if1
+cast-if1 c = search needs
+
+add-field : tie.Need-add-field
+add-field c = search needs
+
+field-requires-2 : tie.Need-field-requires-2
+field-requires-2 c κs =
+    let a = c .before .before .before .before .before .args in
+    let p = c .before .before .before .before .before .pre in
+    new-begins (a .home) (a .s .now) (a .kept) (a .at) (a .table .now) (a .store .now) (p .0) (p .1) _ (c .before .field .ensures .0) (c .if1 .taken)
+
+add-start : tie.Need-add-start
+add-start c = search needs
 
 keep-new-requires : tie.Need-keep-new-requires
 keep-new-requires c κs =
     let a = c .before .before .before .before .before .before .before .before .args in
     let p = c .before .before .before .before .before .before .before .before .pre in
-    let e = sym (c .before .before .before .before .name-at .ensures) ∙ ap nameOf (c .before .before .start .given .1) in
-    (new-stored (a .s .now) (a .at) (a .base) (a .pool) (a .table .now) (p .0) _ _ e, new-room (a .s .now) (a .at) (a .base) (a .pool) (a .table .now) (p .0) _ _ e (p .1))
-
-grown-requires : tie.Need-grown-requires
-grown-requires c κs = search needs
+    new-asks (a .home) (a .s .now) (a .kept) (a .at) (a .table .now) (a .store .now) (p .0) (p .1) _ (c .before .before .before .before .field .ensures .0) (c .before .before .before .if1 .taken) _ (c .before .before .field2 .ensures .0)
 
 span-words-requires : tie.Need-span-words-requires
 span-words-requires c κs =
-    let a = c .before .before .before .before .before .before .before .before .before .before .before .before .args in
-    let p = c .before .before .before .before .before .before .before .before .before .before .before .before .pre in
-    let e = sym (c .before .before .before .before .before .before .before .before .name-at .ensures) ∙ ap nameOf (c .before .before .before .before .before .before .start .given .1) in
-    new-stored (a .s .now) (a .at) (a .base) (a .pool) (a .table .now) (p .0) _ _ e
+    let a = c .before .before .before .before .before .before .before .before .before .before .before .before .before .args in
+    let p = c .before .before .before .before .before .before .before .before .before .before .before .before .before .pre in
+    let q = new-asks (a .home) (a .s .now) (a .kept) (a .at) (a .table .now) (a .store .now) (p .0) (p .1) _ (c .before .before .before .before .before .before .before .before .before .field .ensures .0) (c .before .before .before .before .before .before .before .before .if1 .taken) _ (c .before .before .before .before .before .before .before .field2 .ensures .0) in
+    omega (arith, q .0 .0, q .0 .1)
 
-enum-known-index : tie.Need-enum-known-index
-enum-known-index c = search needs
-
-pooled-words-requires : tie.Need-pooled-words-requires
-pooled-words-requires c κs =
-    let a = c .before .before .before .before .before .before .before .before .args in
-    let p = c .before .before .before .before .before .before .before .before .pre in
-    let e = sym (c .before .before .before .before .name-at .ensures) ∙ ap nameOf (c .before .before .index .given .1) in
-    known-room (a .s .now) (a .at) (a .base) (a .pool) (a .table .now) (p .0) _ _ e
-
-enum-told : tie.Need-enum-told
-enum-told c = search needs
-
-unfilled-requires : tie.Need-unfilled-requires
-unfilled-requires c κs = search needs
-
-enum-told-2 : tie.Need-enum-told-2
-enum-told-2 c = search needs
-
-unfilled-requires-2 : tie.Need-unfilled-requires-2
-unfilled-requires-2 c κs = search needs
+add-t13 : tie.Need-add-t13
+add-t13 c = search needs
 
 same-length : tie.Need-same-length
 same-length c = search needs
 
-returns : tie.Need-returns
-unfolding refWords spanWords counted poolGrown
-returns c =
-    let e = sym (c .before .before .before .before .before .before .before .before .before .name-at .ensures) ∙ ap nameOf (c .before .before .before .before .before .before .before .start .given .1) in
-    once-got _ _ _ _ e (record { plain = record { said = c .span-words .ensures; moved = refl; counts = ap (λ (q : Pool). q .names) (c .before .grown .ensures) }; kept = c .before .before .before .before .keep-new .ensures })
-
 same-length-2 : tie.Need-same-length-2
 same-length-2 c = search needs
 
-returns-2 : tie.Need-returns-2
-unfolding refWords counted addsRef pairs
-returns-2 c =
-    let e = sym (c .before .before .before .before .before .name-at .ensures) ∙ ap nameOf (c .before .before .before .index .given .1) in
-    once-got _ _ _ _ e (record { plain = record { said = c .pooled-words .ensures; moved = refl; counts = refl }; kept = refl })
+returns : tie.Need-returns
+returns c =
+    let a = c .before .before .before .before .before .before .before .before .before .before .before .before .before .before .args in
+    let p = c .before .before .before .before .before .before .before .before .before .before .before .before .before .before .pre in
+    new-filled (a .home) (a .s .now) (a .kept) (a .at) (a .table .now) (a .store .now) (p .0) (p .1) _ (c .before .before .before .before .before .before .before .before .before .before .field .ensures .0) (c .before .before .before .before .before .before .before .before .before .if1 .taken) _ (c .before .before .before .before .before .before .before .before .field2 .ensures .0) _ _ _ (c .before .before .before .before .before .keep-new .ensures) (c .span-words .ensures) refl
+
+pooled-words-requires : tie.Need-pooled-words-requires
+pooled-words-requires c κs =
+    let a = c .before .before .before .before .before .before .args in
+    let p = c .before .before .before .before .before .before .pre in
+    known-room (a .home) (a .s .now) (a .kept) (a .at) (a .table .now) (a .store .now) (p .0) (p .1) _ (c .before .before .field .ensures .0) (c .before .if1 .left)
+
+add-t11 : tie.Need-add-t11
+add-t11 c = search needs
 
 same-length-3 : tie.Need-same-length-3
 same-length-3 c = search needs
 
-returns-3 : tie.Need-returns-3
-returns-3 c =
-    let e = sym (c .before .before .before .name-at .ensures) ∙ ap nameOf (c .before .enum-told .given .1) in
-    once-short _ _ _ e
-
-same-length-4 : tie.Need-same-length-4
-same-length-4 c = search needs
-
-returns-4 : tie.Need-returns-4
-returns-4 c =
-    let e = sym (c .before .before .before .name-at .ensures) ∙ ap nameOf (c .before .enum-told2 .given .1) in
-    once-refused _ _ _ _ e
+returns-2 : tie.Need-returns-2
+returns-2 c =
+    let a = c .before .before .before .before .before .before .before .args in
+    let p = c .before .before .before .before .before .before .before .pre in
+    known-filled (a .home) (a .s .now) (a .kept) (a .at) (a .table .now) (a .store .now) (p .0) (p .1) _ (c .before .before .before .field .ensures .0) (c .before .before .if1 .left) _ refl (c .pooled-words .ensures) refl
 
 pub name-spec : {M : Type 1} → statement M
 name-spec =
     tie.close
     (tie.spec
-    name-at-requires
-    enum-known-start
+    field-requires
+    cast-if1
+    add-field
+    field-requires-2
+    add-start
     keep-new-requires
-    grown-requires
     span-words-requires
-    enum-known-index
-    pooled-words-requires
-    enum-told
-    unfilled-requires
-    enum-told-2
-    unfilled-requires-2
+    add-t13
     same-length
-    returns
     same-length-2
-    returns-2
+    returns
+    pooled-words-requires
+    add-t11
     same-length-3
-    returns-3
-    same-length-4
-    returns-4)
+    returns-2)

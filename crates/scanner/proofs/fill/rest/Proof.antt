@@ -1,69 +1,97 @@
 use native.Mathlib.Omega.{arith}
+use mathlib.Core.Path.{sym, _∙_}
 use Prim.Native.Nat.{_+_, _*_, _-_, _≤_}
-use mathlib.Core.Path.{refl, sym, _∙_}
 use lib.ListN.{length}
-use lib.Seq.{sets, length-sets}
-use Rattle.grammar.specs.Scan.{words}
 use Rattle.grammar.specs.Turn.{rest}
-use Rattle.scanner.specs.Turn.{soundOf}
-use Rattle.scanner.proofs.Walk.{KeepsTo, keeping-long, keeps-long}
-use Rattle.scanner.proofs.Filling.{Filling, filling-end, filling-long, filled, turn-asks, turn-moves, turn-more}
+use Rattle.grammar.specs.Trusted.{always}
+use Rattle.scanner.specs.Fill.{Walked}
+use Rattle.scanner.proofs.Keeping.{keeps-words, keeps-bytes}
+use Rattle.scanner.proofs.Walking.{walked-none, walked-long, walked-rows, none-left, walk-asks, walk-moves, walk-more}
+use borrow.Author.Needs.{needs}
 use Rattle.scanner.proofs.fill.rest.Statement.{statement}
 use Rattle.scanner.proofs.fill.rest.Tie as tie
 
 abbrev Inv-loop : tie.InvT-loop
-Inv-loop s from base tokens table₀ start rows₀ at₀ names₀ to₀ table rows at names to =
-    (at ≤ length s)
-    × Filling base s (soundOf start table₀) (KeepsTo base s start table₀ from) (sets rows₀ 8 (words 0 base (KeepsTo base s start table₀ from) (rest (soundOf start table₀) s (start .names) from)))
-    (rest (soundOf start table₀) s names at) (record { kept = start .kept; stored = start .stored; names = names }) table rows to
-    × (to ≤ 8 * at + 8)
+Inv-loop s from home table₀ store₀ rows₀ first at₀ kept₀ to₀ table store rows at kept to =
+    (at ≤ length s) × ((to ≤ length rows₀) × (to + 8 * at₀ ≤ first + 8 * at))
+    × Walked home s kept₀ (rest always s (kept₀ .names) at₀) table₀ table store₀ store rows₀ rows first to (rest always s (kept .names) at) kept
 
 abbrev μ-loop : tie.MeasureT-loop
-μ-loop s from base tokens table₀ start rows₀ at₀ names₀ to₀ table rows at names to = length s - at
+μ-loop s from home table₀ store₀ rows₀ first at₀ kept₀ to₀ table store rows at kept to = length s - at
 
 loop-holds : tie.Need-loop-holds Inv-loop μ-loop
 loop-holds c =
-    let p = c .before .before .before .pre in
-    (p .0, record { keeping = record { same-sound = refl; keepable = p .1 .1 .keepable; table-to = refl }; rows-fit = p .1 .1 .rows-fit; rows-to = refl }, omega arith)
+    let a = c .before .before .before .before .args in
+    let p = c .before .before .before .before .pre in
+    (p .0 .0, (p .0 .1, omega arith), walked-none (a .home) (a .s .now) (a .start) (rest always (a .s .now) (a .start .names) (a .from)) (a .table .now) (a .store .now) (a .rows .now) (a .first))
 
 is-attribute-requires : tie.Need-is-attribute-requires Inv-loop μ-loop
-is-attribute-requires c κs = c .before .before .before .before .pre .1 .0
+is-attribute-requires c κs = search needs
 
-attribute-requires : tie.Need-attribute-requires Inv-loop μ-loop
-attribute-requires c κs =
-    let q = turn-asks _ (c .before .before .before .before .loop .inv .1) (sym (c .before .before .before .is-attribute .ensures) ∙ c .before .before .if1 .taken) in
-    (q .0, (c .before .before .before .before .before .before .before .before .pre .1 .0, (q .1 .0, q .1 .1)))
-
-add-to : tie.Need-add-to Inv-loop μ-loop
-add-to c =
-    let l = c .before .before .before .before .before .before .before .before .before .loop in
-    omega (arith, l .inv .0, l .inv .2, c .before .before .before .before .before .before .before .before .before .before .before .before .before .pre .1 .1 .keepable .in-store)
-
-loop-less : tie.Need-loop-less Inv-loop μ-loop
-loop-less c =
-    let m = turn-moves _ (c .before .before .before .before .before .before .before .before .before .loop .inv .1) (sym (c .before .before .before .before .before .before .before .before .is-attribute .ensures) ∙ c .before .before .before .before .before .before .before .if1 .taken) _ _ _ (c .before .before .before .before .attribute .ensures) in
-    omega (arith, m .0, m .1)
-
-loop-again : tie.Need-loop-again Inv-loop μ-loop
-loop-again c =
-    let m = turn-moves _ (c .before .before .before .before .before .before .before .before .before .loop .inv .1) (sym (c .before .before .before .before .before .before .before .before .is-attribute .ensures) ∙ c .before .before .before .before .before .before .before .if1 .taken) _ _ _ (c .before .before .before .before .attribute .ensures) in
-    (m .1, turn-more _ (c .before .before .before .before .before .before .before .before .before .loop .inv .1) (sym (c .before .before .before .before .before .before .before .before .is-attribute .ensures) ∙ c .before .before .before .before .before .before .before .if1 .taken) _ _ _ (c .before .before .before .before .attribute .ensures), omega (arith, c .before .before .before .before .before .before .before .before .before .loop .inv .2, m .0))
+sub-if2 : tie.Need-sub-if2 Inv-loop μ-loop
+sub-if2 c =
+    let l = c .before .before .loop in
+    let n = walked-long _ _ _ _ _ _ _ _ _ _ _ _ _ _ (l .inv .2) in
+    omega (arith, n, l .inv .1 .0)
 
 same-length : tie.Need-same-length Inv-loop μ-loop
-same-length c =
-    let a = c .before .before .before .before .before .before .args in
-    keeping-long (c .before .before .loop .inv .1 .keeping) ∙ keeps-long (a .base) (a .s .now) (a .start) (a .table .now) (a .from)
+same-length c = keeps-words _ (c .before .before .before .loop .inv .2 .keeps)
 
 same-length-2 : tie.Need-same-length-2 Inv-loop μ-loop
-same-length-2 c =
-    let a = c .before .before .before .before .before .before .args in
-    filling-long (c .before .before .loop .inv .1) ∙ length-sets (a .rows .now) 8 (words 0 (a .base) (KeepsTo (a .base) (a .s .now) (a .start) (a .table .now) (a .from)) (rest (soundOf (a .start) (a .table .now)) (a .s .now) (a .start .names) (a .from)))
+same-length-2 c = keeps-bytes _ (c .before .before .before .loop .inv .2 .keeps)
+
+same-length-3 : tie.Need-same-length-3 Inv-loop μ-loop
+same-length-3 c = walked-long _ _ _ _ _ _ _ _ _ _ _ _ _ _ (c .before .before .before .loop .inv .2)
 
 returns : tie.Need-returns Inv-loop μ-loop
 returns c =
-    let a = c .before .before .before .before .before .before .args in
-    let d = filling-end _ (c .before .before .loop .inv .1) (sym (c .before .is-attribute .ensures) ∙ c .if1 .left) in
-    filled 8 (a .base) _ (a .start .names) (a .table .now) _ (a .rows .now) _ (d .0) (d .1)
+    let l = c .before .before .before .loop in
+    let n = walked-long _ _ _ _ _ _ _ _ _ _ _ _ _ _ (l .inv .2) in
+    walked-rows _ _ _ _ _ _ _ _ _ _ _ _ _ _ _ (l .inv .2) (l .inv .1 .0) (λ z. absurd (omega (arith, z, n, c .if2 .taken))) (l .inv .1 .1) (l .inv .0)
+
+attribute-requires : tie.Need-attribute-requires Inv-loop μ-loop
+attribute-requires c κs =
+    let l = c .before .before .before .before .before .before .loop in
+    let p = c .before .before .before .before .before .before .before .before .before .before .before .pre in
+    let n = walked-long _ _ _ _ _ _ _ _ _ _ _ _ _ _ (l .inv .2) in
+    let q = walk-asks _ _ _ _ _ _ _ _ (p .1) _ _ _ _ _ _ (l .inv .2) (sym (c .before .before .before .before .before .is-attribute .ensures) ∙ c .before .before .before .before .if1 .taken) in
+    (q .0, (q .1, omega (arith, n, l .inv .1 .0, c .before .before .before .if2 .left)))
+
+add-to : tie.Need-add-to Inv-loop μ-loop
+add-to c =
+    let l = c .before .before .before .before .before .before .before .before .before .before .before .before .before .before .loop in
+    let n = walked-long _ _ _ _ _ _ _ _ _ _ _ _ _ _ (l .inv .2) in
+    omega (arith, n, l .inv .1 .0, c .before .before .before .before .before .before .before .before .before .before .before .if2 .left, c .before .before .before .before .before .before .before .before .before .before .before .before .before .before .before .before .before .before .before .good)
+
+loop-less : tie.Need-loop-less Inv-loop μ-loop
+loop-less c =
+    let l = c .before .before .before .before .before .before .before .before .before .before .before .before .before .before .loop in
+    let p = c .before .before .before .before .before .before .before .before .before .before .before .before .before .before .before .before .before .before .before .pre in
+    let q = walk-moves _ _ _ _ _ _ _ _ (p .1) _ _ _ _ _ _ (l .inv .2) (sym (c .before .before .before .before .before .before .before .before .before .before .before .before .before .is-attribute .ensures) ∙ c .before .before .before .before .before .before .before .before .before .before .before .before .if1 .taken) _ _ _ _ (c .before .before .before .before .before .before .before .attribute .ensures) in
+    omega (arith, q .0, q .1)
+
+loop-again : tie.Need-loop-again Inv-loop μ-loop
+loop-again c =
+    let l = c .before .before .before .before .before .before .before .before .before .before .before .before .before .before .loop in
+    let p = c .before .before .before .before .before .before .before .before .before .before .before .before .before .before .before .before .before .before .before .pre in
+    let n = walked-long _ _ _ _ _ _ _ _ _ _ _ _ _ _ (l .inv .2) in
+    let b = sym (c .before .before .before .before .before .before .before .before .before .before .before .before .before .is-attribute .ensures) ∙ c .before .before .before .before .before .before .before .before .before .before .before .before .if1 .taken in
+    let q = walk-moves _ _ _ _ _ _ _ _ (p .1) _ _ _ _ _ _ (l .inv .2) b _ _ _ _ (c .before .before .before .before .before .before .before .attribute .ensures) in
+    (q .1, (omega (arith, n, l .inv .1 .0, c .before .before .before .before .before .before .before .before .before .before .before .if2 .left), omega (arith, l .inv .1 .1, q .0)), walk-more _ _ _ _ _ _ _ _ (p .1) _ _ _ _ _ _ (l .inv .2) b _ _ _ _ (c .before .before .before .before .before .before .before .attribute .ensures))
+
+same-length-4 : tie.Need-same-length-4 Inv-loop μ-loop
+same-length-4 c = keeps-words _ (c .before .before .loop .inv .2 .keeps)
+
+same-length-5 : tie.Need-same-length-5 Inv-loop μ-loop
+same-length-5 c = keeps-bytes _ (c .before .before .loop .inv .2 .keeps)
+
+same-length-6 : tie.Need-same-length-6 Inv-loop μ-loop
+same-length-6 c = walked-long _ _ _ _ _ _ _ _ _ _ _ _ _ _ (c .before .before .loop .inv .2)
+
+returns-2 : tie.Need-returns-2 Inv-loop μ-loop
+returns-2 c =
+    let l = c .before .before .loop in
+    walked-rows _ _ _ _ _ _ _ _ _ _ _ _ _ _ _ (l .inv .2) (l .inv .1 .0) (λ z. none-left _ _ _ (sym (c .before .is-attribute .ensures) ∙ c .if1 .left)) (l .inv .1 .1) (l .inv .0)
 
 pub rest-spec : {M : Type 1} → statement M
 rest-spec =
@@ -73,10 +101,16 @@ rest-spec =
     μ-loop
     loop-holds
     is-attribute-requires
+    sub-if2
+    same-length
+    same-length-2
+    same-length-3
+    returns
     attribute-requires
     add-to
     loop-less
     loop-again
-    same-length
-    same-length-2
-    returns)
+    same-length-4
+    same-length-5
+    same-length-6
+    returns-2)

@@ -1,64 +1,54 @@
 use mathlib.Core.Path.{refl, sym, ap, _∙_}
-use Prim.Native.Nat.{ℕ}
-use lib.ListN.{length, length-replicate}
-use Rattle.slice_spec.specs.Slice.{Place}
-use Rattle.scanner.proofs.Picking.{counting, zeros-long, kept-keepable, kept-rows, asked-by}
+use Prim.Native.Nat.{ℕ, _*_}
+use lib.ListN.{length, drop, length-replicate}
+use Rattle.scanner.specs.Select.{placeOf}
+use Rattle.scanner.proofs.Picking.{none-stored, zeros-long, again-added, again-ready, again-asked, none-room}
 use borrow.Author.Needs.{needs}
 use Rattle.scanner.proofs.select.count_taken.Statement.{statement}
 use Rattle.scanner.proofs.select.count_taken.Tie as tie
 
-sub-take-event : tie.Need-sub-take-event
-sub-take-event c = search needs
+count-by-requires : tie.Need-count-by-requires
+count-by-requires c κs =
+    let a = c .before .before .before .before .before .before .before .args in
+    let w = c .before .before .before .before .before .before .before .pre in
+    let pl = placeOf (a .at) (a .names) in
+    let e = c .before .if1 .taken in
+    let r = none-room (a .document .now) pl (a .table .now) (a .extent .rows) (a .extent .added) w e in
+    (w .at-fits, (again-ready (a .document .now) pl (a .table .now) (a .extent .rows) (a .extent .added) w _ refl (a .table .now) refl r, λ _. sym (again-added (a .document .now) pl (a .table .now) (a .extent .rows) (a .extent .added) w _ refl) ∙ e))
 
-part-take-event-start : tie.Need-part-take-event-start
-part-take-event-start c = search needs
-
-part-take-event-end : tie.Need-part-take-event-end
-part-take-event-end c = search needs
-
-slice-aggregate-take-event : tie.Need-slice-aggregate-take-event
-slice-aggregate-take-event c = search needs
-
-take-event-requires : tie.Need-take-event-requires
-take-event-requires c κs =
-    let a = c .before .before .before .before .before .before .before .before .args in
-    let p = c .before .before .before .before .before .before .before .before .pre in
-    let pl : Place = record { at = a .at; names = a .names } in
-    let w = p .1 in
-    (p .0, (kept-keepable (a .document .now) pl (a .table .now) (a .extent .rows) (a .extent .added) w (c .before .before .if1 .taken), (counting _ 0, λ _. refl)))
+same-length : tie.Need-same-length
+same-length c = search needs
 
 returns : tie.Need-returns
 returns c =
     let a = c .before .before .before .before .before .before .before .before .before .before .args in
-    let p = c .before .before .before .before .before .before .before .before .before .before .pre in
-    let pl : Place = record { at = a .at; names = a .names } in
-    let w = p .1 in
-    c .before .take-event .ensures .0 .counted ∙ ap length (asked-by (a .document .now) pl (a .table .now) (a .extent .rows) (a .extent .added) w (a .query) (a .element .now) (a .name .now) _ _ (kept-rows (a .document .now) pl (a .table .now) (a .extent .rows) (a .extent .added) w (c .before .before .before .before .if1 .taken)))
+    let w = c .before .before .before .before .before .before .before .before .before .before .pre in
+    let pl = placeOf (a .at) (a .names) in
+    let e = c .before .before .before .before .if1 .taken in
+    let r = none-room (a .document .now) pl (a .table .now) (a .extent .rows) (a .extent .added) w e in
+    let n = again-added (a .document .now) pl (a .table .now) (a .extent .rows) (a .extent .added) w (drop (a .at) (a .document .now)) refl in
+    (c .before .before .count-by .ensures .0 ∙ ap length (again-asked (a .document .now) pl (a .table .now) (a .extent .rows) (a .extent .added) w _ refl (a .table .now) refl r (a .query) (a .element .now) (a .name .now)), c .before .before .count-by .ensures .1 ∙ sym (none-stored (a .table .now) (2 * a .names) (a .at) _ (sym e ∙ n)))
 
-slice-aggregate-count-by : tie.Need-slice-aggregate-count-by
-slice-aggregate-count-by c = sym (length-replicate {A = ℕ} 131_072 0)
+slice-aggregate-count-aside : tie.Need-slice-aggregate-count-aside
+slice-aggregate-count-aside c = sym (length-replicate {A = ℕ} 131_072 0)
 
-count-by-requires : tie.Need-count-by-requires
-count-by-requires c κs =
-    let a = c .before .before .before .before .before .before .before .args in
-    let p = c .before .before .before .before .before .before .before .pre in
-    let pl : Place = record { at = a .at; names = a .names } in
-    let w = p .1 in
-    (zeros-long 131_072, (p .0, w))
+count-aside-requires : tie.Need-count-aside-requires
+count-aside-requires c κs = (zeros-long 131_072, c .before .before .before .before .before .before .before .before .pre)
+
+same-length-2 : tie.Need-same-length-2
+same-length-2 c = search needs
 
 returns-2 : tie.Need-returns-2
-returns-2 c = c .before .count-by .ensures
+returns-2 c = search needs
 
 pub count-taken-spec : {M : Type 1} → statement M
 count-taken-spec =
     tie.close
     (tie.spec
-    sub-take-event
-    part-take-event-start
-    part-take-event-end
-    slice-aggregate-take-event
-    take-event-requires
-    returns
-    slice-aggregate-count-by
     count-by-requires
+    same-length
+    returns
+    slice-aggregate-count-aside
+    count-aside-requires
+    same-length-2
     returns-2)

@@ -1,13 +1,12 @@
 use native.Mathlib.Omega.{arith}
 use mathlib.Core.Path.{sym, ap, _∙_}
 use Prim.Native.Nat.{ℕ, _+_, _/_}
-use borrow.Author.Needs.{needs}
 use borrow.Author.Tests.{lt-ltb, le-ltb}
 use lib.ListN.{length}
 use lib.Dec.{ltb}
-use Rattle.slice_spec.specs.Slice.{Place}
-use Rattle.scanner.specs.Select.{turned}
+use Rattle.scanner.specs.Select.{placeOf, turned}
 use Rattle.scanner.proofs.Picking.{few-rows, surely}
+use borrow.Author.Needs.{needs}
 use Rattle.scanner.proofs.select.pick_surely.Statement.{statement}
 use Rattle.scanner.proofs.select.pick_surely.Tie as tie
 
@@ -17,11 +16,9 @@ new-requires c κs = search needs
 returns : tie.Need-returns
 returns c =
     let a = c .before .before .before .before .before .before .before .args in
-    let p = c .before .before .before .before .before .before .before .pre in
-    let pl : Place = record { at = a .at; names = a .names } in
-    let w = p .1 in
+    let w = c .before .before .before .before .before .before .before .pre in
     let none = c .before .if1 .taken in
-    λ events. rw (lt-ltb (length (a .rows .now) / 8) (a .written) none) (ap turned (few-rows (a .document .now) pl (a .table .now) (a .extent .rows) (a .extent .added) w (a .query) (a .element .now) (a .name .now) (a .rows .now) events (a .written) (a .extent .len) _ _ (lt-ltb (length (a .rows .now) / 8) (a .written + _) (omega arith)) (c .new .ensures .0) (c .new .ensures .1)))
+    λ events. rw (lt-ltb (length (a .rows .now) / 8) (a .written) none) (ap turned (few-rows (a .document .now) (placeOf (a .at) (a .names)) (a .table .now) (a .extent .rows) (a .extent .added) w (a .query) (a .element .now) (a .name .now) (a .rows .now) events (a .written) (a .extent .len) _ _ (lt-ltb (length (a .rows .now) / 8) (a .written + _) (omega arith)) (c .new .ensures .0) (c .new .ensures .1)))
 
 most-taken-requires : tie.Need-most-taken-requires
 most-taken-requires c κs = search needs
@@ -38,11 +35,9 @@ returns-2 c =
 pick-fitting-requires : tie.Need-pick-fitting-requires
 pick-fitting-requires c κs =
     let a = c .before .before .before .before .before .before .before .before .before .before .before .args in
-    let p = c .before .before .before .before .before .before .before .before .before .before .before .pre in
-    let pl : Place = record { at = a .at; names = a .names } in
-    let w = p .1 in
+    let w = c .before .before .before .before .before .before .before .before .before .before .before .pre in
     let short = ap (λ (n : ℕ). ltb (length (a .rows .now) / 8) (a .written + n)) (sym (c .before .before .before .before .most-taken .ensures)) ∙ sym (c .before .before .before .is-short .ensures) in
-    (p .0, (w, surely (a .document .now) pl (a .table .now) (a .extent .rows) (a .extent .added) w (a .query) (a .element .now) (a .name .now) (length (a .rows .now) / 8) (a .written) (short ∙ c .before .before .if2 .left)))
+    (w, surely (a .document .now) (placeOf (a .at) (a .names)) (a .table .now) (a .extent .rows) (a .extent .added) w (a .query) (a .element .now) (a .name .now) (length (a .rows .now) / 8) (a .written) (short ∙ c .before .before .if2 .left))
 
 same-length : tie.Need-same-length
 same-length c = search needs

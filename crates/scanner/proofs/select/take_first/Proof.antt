@@ -1,6 +1,4 @@
-use Rattle.grammar.specs.Scan.{itemWords}
-use Rattle.scanner.specs.Answers.{itemOf}
-use Rattle.scanner.proofs.Choosing.{chose-first, chose-none}
+use Rattle.scanner.proofs.Picking.{chose-first, chose-none}
 use borrow.Author.Needs.{needs}
 use Rattle.scanner.proofs.select.take_first.Statement.{statement}
 use Rattle.scanner.proofs.select.take_first.Tie as tie
@@ -16,7 +14,7 @@ same-length c = search needs
 returns : tie.Need-returns
 returns c =
     let a = c .before .before .before .before .before .before .before .args in
-    rw (c .before .before .before .before .if1 .taken) (chose-first (a .write) (a .to) (itemWords 0 (a .base) (a .table .now) (itemOf (a .item))) (a .rows .now) _ (c .before .before .put-taken .ensures))
+    rw (c .before .before .before .before .if1 .taken) (chose-first (a .write) (a .to) (a .row .now) (a .rows .now) _ (c .before .before .put-taken .ensures))
 
 returns-2 : tie.Need-returns-2
 returns-2 c =

@@ -1,0 +1,3 @@
+mod Tallies
+mod Measuring
+mod Passing

@@ -1,0 +1,4 @@
+pub mod Answers
+pub mod Past
+pub mod Tally
+pub mod Measured

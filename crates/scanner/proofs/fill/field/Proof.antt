@@ -1,0 +1,50 @@
+use native.Mathlib.Omega.{arith}
+use borrow.Author.Tests.{le-ltb}
+use Prim.Native.Nat.{_+_, _-_}
+use lib.ListN.{length}
+use Rattle.grammar.specs.Grammar.{u16}
+use borrow.Author.Needs.{needs}
+use Rattle.scanner.proofs.fill.field.Statement.{statement}
+use Rattle.scanner.proofs.fill.field.Tie as tie
+
+shared-slice-read-result : tie.Need-shared-slice-read-result
+shared-slice-read-result c = search needs
+
+cast-result : tie.Need-cast-result
+cast-result c = omega (arith, c .shared-slice-known .given (c .before .args .at))
+
+mul-result : tie.Need-mul-result
+mul-result c = omega (arith, c .shared-slice-known .given (c .before .args .at))
+
+add-result : tie.Need-add-result
+add-result c = search needs
+
+shared-slice-read-result-2 : tie.Need-shared-slice-read-result-2
+shared-slice-read-result-2 c = search needs
+
+cast-result-2 : tie.Need-cast-result-2
+cast-result-2 c = omega (arith, c .shared-slice-known2 .given (c .before .before .args .at + 1))
+
+add-result-2 : tie.Need-add-result-2
+add-result-2 c =
+    let a = c .before .before .args in
+    omega (arith, c .shared-slice-known2 .given (a .at), c .shared-slice-known2 .given (a .at + 1))
+
+returns : tie.Need-returns
+unfolding u16
+returns c =
+    let a = c .before .before .args in
+    (rw (le-ltb (length (a .s .now) - a .at) 2 (omega arith)), omega (arith, c .shared-slice-known2 .given (a .at), c .shared-slice-known2 .given (a .at + 1)))
+
+pub field-spec : {M : Type 1} → statement M
+field-spec =
+    tie.close
+    (tie.spec
+    shared-slice-read-result
+    cast-result
+    mul-result
+    add-result
+    shared-slice-read-result-2
+    cast-result-2
+    add-result-2
+    returns)
