@@ -3,8 +3,8 @@ use mathlib.Core.List.{List}
 use mathlib.Core.Path.{_≡_}
 use Prim.Native.Nat.{ℕ, _+_, _*_, _-_, _≤_, _<_}
 use lib.ListN.{length, getD, take, drop}
+use Rattle.names.specs.Slots.{slotOf}
 use Rattle.writer_spec.specs.Search.{endOf}
-use Rattle.pool_index.specs.Slots.{slotOf}
 
 -- the bytes that a pair spans, where it ends inside
 abbrev pub pairName : List ℕ → List ℕ → ℕ → List ℕ

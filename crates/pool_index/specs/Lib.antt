@@ -1,4 +1,2 @@
-pub mod Slots
 pub mod Search
 pub mod Index
-pub mod Laws

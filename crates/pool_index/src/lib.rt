@@ -3,27 +3,10 @@ ghost use mathlib.Core.Path.{_≡_};
 ghost use Prim.Native.Nat.{_+_, _*_, _-_, _≤_, _<_};
 ghost use lib.ListN.{length, getD, set, take, drop};
 ghost use Rattle.event.specs.Span.{same};
+ghost use Rattle.names.specs.Slots.{slotOf, Fresh};
 ghost use Rattle.writer_spec.specs.Search.{endOf};
-ghost use Rattle.pool_index.specs.Slots.{slotBy, slotOf, Fresh};
 ghost use Rattle.pool_index.specs.Search.{searched, foundOf};
 ghost use Rattle.pool_index.specs.Index.{pairName, Inside, Indexed, MaybeIndexed};
-
-// ---- slots
-
-// A number's slot, among so many.
-pub fn slot_by(mixed: u64, slots: u16) -> usize
-    ensures { λ r. ⌜ r ≡ slotBy slots mixed ⌝ }
-{
-    let spread = mixed % 4_294_967_296 * 2_654_435_761 % 4_294_967_296;
-    (spread * (slots as u64) / 4_294_967_296) as usize
-}
-
-// A name's slot.
-pub fn slot_of(name: &[u8], slots: u16) -> usize
-    ensures { λ r. ⌜ r ≡ slotOf slots (now (name .entry)) ⌝ }
-{
-    slot_by(names::hash(name), slots)
-}
 
 // ---- pair by pair
 
@@ -95,7 +78,7 @@ fn pair_slot(output: &[u8], pool: &[u32], i: usize) -> usize
 {
     let start = pool[2 * i] as usize;
     let len = pool[2 * i + 1] as usize;
-    slot_of(&output[start..start + len], 16_384)
+    names::slot_of(&output[start..start + len], 16_384)
 }
 
 // A pair goes before the others of its slot.
@@ -131,7 +114,7 @@ fn search_index(output: &[u8], pool: &[u32], names: usize, name: &[u8], index: &
     requires { ⌜ length (now index) ≡ 81920 ⌝ }
     ensures { λ r. ⌜ (Indexed (now (output .entry)) (now (pool .entry)) names (now (index .entry)) → foundOf r ≡ searched (now (output .entry)) names (now (pool .entry)) (now (name .entry))) ⌝ }
 {
-    let mut next = index[slot_of(name, 16_384)] as usize;
+    let mut next = index[names::slot_of(name, 16_384)] as usize;
     while next != 0 {
         let i = 65_535 - next;
         if names <= i {
