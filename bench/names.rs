@@ -1,4 +1,4 @@
-//! `event::same_bytes` beside libc's `memcmp` and a loop over single bytes: first whether they agree, then how long each takes for
+//! `equal_bytes::same_bytes` beside libc's `memcmp` and a loop over single bytes: first whether they agree, then how long each takes for
 //! two names. A row's names are of one length, or of lengths at random.
 
 use std::hint::black_box;

@@ -1,4 +1,4 @@
-//! `event::same_bytes` beside Rust's `==`.
+//! `equal_bytes::same_bytes` beside Rust's `==`.
 
 use crate::common::{hex, Random};
 

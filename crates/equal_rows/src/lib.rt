@@ -1,7 +1,7 @@
 // Which rows of eight words are equal.
+use equal_bytes::same_bytes;
 use event::Shape;
 use event::has_name;
-use event::same_bytes;
 use event::shape_of;
 use event::span;
 ghost use mathlib.Core.Path.{_≡_};

@@ -1,13 +1,11 @@
--- What callers may cite of equal bytes and equal rows: `same` and `sameRow` decide equality, and so do words, of their bytes.
+-- What callers may cite of equal bytes and equal rows: `same` and `sameRow` decide equality.
 use mathlib.Core.Bool.{Bool, true, false, _&&_, false≢true}
 use mathlib.Core.List.{List, [], _∷_}
-use mathlib.Core.Path.{_≡_, refl, sym, ap, _∙_}
-use Prim.Native.Nat.{ℕ, suc, _+_, _*_, _<_}
-use native.Mathlib.Omega.{arith}
-use borrow.Author.Tests.{eqb-true, eq-eqb, ne-eqb}
+use mathlib.Core.Path.{_≡_, refl, ap}
+use Prim.Native.Nat.{ℕ}
+use borrow.Author.Tests.{eqb-true, eq-eqb}
 use lib.Dec.{eqb}
-use lib.ListN.{length}
-use Rattle.event.specs.Span.{same, wordOf, Bytes}
+use Rattle.event.specs.Span.{same}
 use Rattle.event.specs.Row.{Value, nothing, bytes, word, pair, Row, sameValue, sameRow}
 
 -- both sides of a conjunction that holds
@@ -74,30 +72,3 @@ same-row-eq r q h =
     let name : r .name ≡ q .name = same-eq (r .name) (q .name) (rest .0) in
     let value : r .value ≡ q .value = same-value-eq (r .value) (q .value) (rest .1) in
     λ i. record { kind = kind i; name = name i; type = type i; value = value i }
-
--- ---- words
-
--- words of as many bytes, eight or any other number, are equal only when their bytes are
-word-bytes : (a b : List ℕ) → Bytes a → Bytes b → length a ≡ length b → wordOf a ≡ wordOf b → a ≡ b
-unfolding wordOf
-word-bytes [] [] f g l e = refl
-word-bytes [] (y ∷ b) f g l e = absurd (omega arith)
-word-bytes (x ∷ a) [] f g l e = absurd (omega arith)
-word-bytes (x ∷ a) (y ∷ b) f g l e =
-    let p : x < 256 = f 0 in
-    let q : y < 256 = g 0 in
-    let first : x ≡ y = omega arith in
-    let rest : a ≡ b = word-bytes a b (λ i. f (suc i)) (λ i. g (suc i)) (omega arith) (omega arith) in
-    λ i. first i ∷ rest i
-
--- two words are equal exactly when their eight bytes are
-pub words-exactly : (a b : List ℕ) → Bytes a → Bytes b → length a ≡ 8 → length b ≡ 8 → (wordOf a ≡ wordOf b → a ≡ b) × (a ≡ b → wordOf a ≡ wordOf b)
-words-exactly a b f g l m = (word-bytes a b f g (l ∙ sym m), ap wordOf)
-
--- the same of the tests: words are compared in place of their bytes
-pub words-same : (a b : List ℕ) → Bytes a → Bytes b → length a ≡ 8 → length b ≡ 8 → eqb (wordOf a) (wordOf b) ≡ same a b
-words-same a b f g l m = go (same a b) refl
-  where
-    go : (t : Bool) → same a b ≡ t → eqb (wordOf a) (wordOf b) ≡ t
-    go true h = eq-eqb (wordOf a) (wordOf b) (words-exactly a b f g l m .1 (same-eq a b h))
-    go false h = ne-eqb (wordOf a) (wordOf b) (λ e. false≢true (sym h ∙ rw (words-exactly a b f g l m .0 e) (same-refl b)))

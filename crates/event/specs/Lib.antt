@@ -2,4 +2,3 @@ pub mod Span
 pub mod Row
 pub mod Words
 pub mod Laws
-mod Cases

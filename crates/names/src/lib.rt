@@ -94,5 +94,5 @@ pub fn same_name(a: &[u8], b: &[u8]) -> bool
             return false;
         }
     }
-    event::same_bytes(a, b)
+    equal_bytes::same_bytes(a, b)
 }

@@ -39,7 +39,7 @@ fn same_names<'a>(first: &'a [u8], second: &'a [u8], rows: &[u32], i: usize, j: 
     requires { ⌜ (i * 8 + 8 ≤ length (now rows)) × (j * 8 + 8 ≤ length (now rows)) ⌝ }
     ensures { λ r. ⌜ r ≡ sameNames (now (first .entry)) (now (second .entry)) (now (rows .entry)) i j ⌝ }
 {
-    event::same_bytes(
+    equal_bytes::same_bytes(
         name_at(first, second, rows, i),
         name_at(first, second, rows, j),
     )

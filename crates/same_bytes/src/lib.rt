@@ -1,4 +1,4 @@
-// `event::same_bytes` as a static library of its own, so that it can be tried and measured alone.
+// `equal_bytes::same_bytes` as a static library of its own, so that it can be tried and measured alone.
 ghost use mathlib.Core.Path.{_≡_};
 ghost use Rattle.event.specs.Span.{same};
 
@@ -7,5 +7,5 @@ ghost use Rattle.event.specs.Span.{same};
 pub extern "C" fn same_bytes(a: &[u8], b: &[u8]) -> bool
     ensures { λ r. ⌜ r ≡ same (now (a .entry)) (now (b .entry)) ⌝ }
 {
-    event::same_bytes(a, b)
+    equal_bytes::same_bytes(a, b)
 }

@@ -63,7 +63,7 @@ fn is_named(document: &[u8], row: &[u32], name: &[u8]) -> bool
     ensures { λ r. ⌜ r ≡ named (now (document .entry)) (now (name .entry)) (now (row .entry)) ⌝ }
 {
     if event::has_name(row[0]) {
-        return event::same_bytes(event::text(document, row[1], row[2], row[3]), name);
+        return equal_bytes::same_bytes(event::text(document, row[1], row[2], row[3]), name);
     }
     name.len() == 0
 }

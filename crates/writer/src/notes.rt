@@ -35,7 +35,7 @@ fn is_noted<'a>(
             }
         }
     }
-    event::same_bytes(event::span(first, second, source, start, len), name)
+    equal_bytes::same_bytes(event::span(first, second, source, start, len), name)
 }
 
 pub enum Look {

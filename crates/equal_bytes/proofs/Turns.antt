@@ -9,8 +9,9 @@ use borrow.Author.Tests.{eq-eqb, ne-eqb}
 use lib.Dec.{eqb}
 use lib.ListN.{length, getD, take, drop, length-drop, drop-of-length-le, take-append-drop}
 use lib.Seq.{drop-cons, drop-drop, getD-drop, length-take-le}
-use Rattle.event.specs.Span.{same, wordOf, Bytes}
-use Rattle.event.specs.Laws.{words-same}
+use Rattle.event.specs.Span.{same}
+use Rattle.equal_bytes.specs.Word.{wordOf, Bytes}
+use Rattle.equal_bytes.specs.Laws.{words-same}
 
 -- ---- single bytes
 

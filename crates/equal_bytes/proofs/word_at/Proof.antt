@@ -1,10 +1,10 @@
 use borrow.Author.Needs.{needs}
-use Rattle.event.proofs.Turns.{word-halves}
-use Rattle.event.proofs.word_at.Statement.{statement}
-use Rattle.event.proofs.word_at.Tie as tie
-use Rattle.event.proofs.word_at.Reads as reads
-use Rattle.event.proofs.word_at.Lts as lts
-use Rattle.event.proofs.half_word_at.Reads as half-word-at-reads
+use Rattle.equal_bytes.proofs.Turns.{word-halves}
+use Rattle.equal_bytes.proofs.word_at.Statement.{statement}
+use Rattle.equal_bytes.proofs.word_at.Tie as tie
+use Rattle.equal_bytes.proofs.word_at.Reads as reads
+use Rattle.equal_bytes.proofs.word_at.Lts as lts
+use Rattle.equal_bytes.proofs.half_word_at.Reads as half-word-at-reads
 
 half-word-at-requires : tie.Need-half-word-at-requires
 half-word-at-requires c κs = search needs

@@ -2,12 +2,12 @@ use borrow.Author.Needs.{needs}
 use native.Mathlib.Omega.{arith}
 use Prim.Native.Nat.{_+_, _<_}
 use lib.ListN.{getD}
-use Rattle.event.specs.Span.{Bytes}
-use Rattle.event.proofs.Turns.{word-four}
-use Rattle.event.proofs.half_word_at.Statement.{statement}
-use Rattle.event.proofs.half_word_at.Tie as tie
-use Rattle.event.proofs.half_word_at.Reads as reads
-use Rattle.event.proofs.half_word_at.Lts as lts
+use Rattle.equal_bytes.specs.Word.{Bytes}
+use Rattle.equal_bytes.proofs.Turns.{word-four}
+use Rattle.equal_bytes.proofs.half_word_at.Statement.{statement}
+use Rattle.equal_bytes.proofs.half_word_at.Tie as tie
+use Rattle.equal_bytes.proofs.half_word_at.Reads as reads
+use Rattle.equal_bytes.proofs.half_word_at.Lts as lts
 
 -- the four bytes are below 256
 low : (c : lts.After-shared-slice-known4 reads.Pre reads.Post) →

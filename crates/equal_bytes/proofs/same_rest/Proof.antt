@@ -1,5 +1,5 @@
-use Rattle.event.proofs.Turns.{same-on, same-on-two, same-off, same-last, same-end}
+use Rattle.equal_bytes.proofs.Turns.{same-on, same-on-two, same-off, same-last, same-end}
 use Rattle.event.specs.Span.{same}
 use borrow.Author.Tests.{eq-eqb, ne-eqb}
 use borrow.Author.Needs.{needs}
 use lib.Dec.{eqb}
@@ -7,10 +7,10 @@ use lib.ListN.{length, getD, drop}
 use native.Mathlib.Omega.{arith}
 use mathlib.Core.Path.{_≡_, refl, sym, _∙_}
 use Prim.Native.Nat.{_+_, _-_, _≤_, _<_}
-use Rattle.event.proofs.same_rest.Statement.{statement}
-use Rattle.event.proofs.same_rest.Tie as tie
-use Rattle.event.proofs.same_rest.Reads as reads
-use Rattle.event.proofs.same_rest.Lts as lts
+use Rattle.equal_bytes.proofs.same_rest.Statement.{statement}
+use Rattle.equal_bytes.proofs.same_rest.Tie as tie
+use Rattle.equal_bytes.proofs.same_rest.Reads as reads
+use Rattle.equal_bytes.proofs.same_rest.Lts as lts
 
 abbrev Inv-loop : tie.InvT-loop
 Inv-loop a b from i₀ i = (i ≤ length a) × (same (drop i a) (drop i b) ≡ same (drop from a) (drop from b))

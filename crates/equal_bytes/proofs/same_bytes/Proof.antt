@@ -1,5 +1,6 @@
-use Rattle.event.proofs.Turns.{same-lengths, word-turn}
-use Rattle.event.specs.Span.{same, Bytes}
+use Rattle.equal_bytes.proofs.Turns.{same-lengths, word-turn}
+use Rattle.event.specs.Span.{same}
+use Rattle.equal_bytes.specs.Word.{Bytes}
 use borrow.Author.Tests.{eq-eqb, ne-eqb}
 use mathlib.Core.Bool.{_&&_}
 use lib.Dec.{eqb}
@@ -8,12 +9,12 @@ use lib.ListN.{length, drop}
 use native.Mathlib.Omega.{arith}
 use mathlib.Core.Path.{_≡_, refl, sym, _∙_}
 use Prim.Native.Nat.{_+_, _-_, _≤_}
-use Rattle.event.proofs.same_bytes.Statement.{statement}
-use Rattle.event.proofs.same_bytes.Tie as tie
-use Rattle.event.proofs.same_bytes.Reads as reads
-use Rattle.event.proofs.same_bytes.Lts as lts
-use Rattle.event.proofs.same_rest.Reads as same-rest-reads
-use Rattle.event.proofs.word_at.Reads as word-at-reads
+use Rattle.equal_bytes.proofs.same_bytes.Statement.{statement}
+use Rattle.equal_bytes.proofs.same_bytes.Tie as tie
+use Rattle.equal_bytes.proofs.same_bytes.Reads as reads
+use Rattle.equal_bytes.proofs.same_bytes.Lts as lts
+use Rattle.equal_bytes.proofs.same_rest.Reads as same-rest-reads
+use Rattle.equal_bytes.proofs.word_at.Reads as word-at-reads
 
 abbrev Inv-loop : tie.InvT-loop
 Inv-loop a b i₀ i = (i ≤ length a) × (same (drop i a) (drop i b) ≡ same a b)
