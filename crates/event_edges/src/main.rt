@@ -5,8 +5,8 @@
 //   v ROW and 16 words      the value of the attribute in that row
 // The bytes of a part are shown in hex, `=` where it is empty; a value by its case and what it carries; a refusal by number
 // and detail.
-use forms::Accessed;
-use forms::AttributeValue;
+use attribute_values::Accessed;
+use attribute_values::AttributeValue;
 use libc::STDIN_FILENO;
 use libc::STDOUT_FILENO;
 ghost use Prim.Native.Nat.{_≤_};
@@ -241,7 +241,7 @@ fn value_case(s: &[u8], from: usize) -> usize
         at = word.next;
         i += 1;
     }
-    show(forms::attribute_value(&rows, row.value as usize));
+    show(attribute_values::attribute_value(&rows, row.value as usize));
     end_line();
     at
 }

@@ -1,13 +1,13 @@
 use Rattle.event.proofs.Shapes.{shape-other}
-use Rattle.forms.specs.Value.{value, signed, word, pair, valueByShape, valueByType}
+use Rattle.attribute_values.specs.Value.{value, signed, word, pair, valueByShape, valueByType}
 use Rattle.event.specs.Row.{shape, shapes}
 use mir.Facts.{toZ-ofZ}
 use mir.Val.{toZ}
 use mir.Syntax.{w32, w64}
 use mathlib.Core.Path.{ap, _∙_}
 use borrow.Author.Needs.{needs}
-use Rattle.forms.proofs.value_by_type.Statement.{statement}
-use Rattle.forms.proofs.value_by_type.Tie as tie
+use Rattle.attribute_values.proofs.value_by_type.Statement.{statement}
+use Rattle.attribute_values.proofs.value_by_type.Tie as tie
 
 not-a-value-requires : tie.Need-not-a-value-requires
 not-a-value-requires c κs = search needs

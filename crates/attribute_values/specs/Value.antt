@@ -13,10 +13,10 @@ use Rattle.event.specs.Row.{shape}
 use Rattle.event.specs.Words.{attributeForms}
 use Rattle.event.specs.declared.Shape.{Shape}
 use Rattle.event.specs.declared.Shape.the-variants as Shape
-use Rattle.forms.specs.declared.AttributeValue.{AttributeValue}
-use Rattle.forms.specs.declared.AttributeValue.the-variants as AttributeValue
-use Rattle.forms.specs.declared.Accessed.{Accessed}
-use Rattle.forms.specs.declared.Accessed.the-variants as Accessed
+use Rattle.attribute_values.specs.declared.AttributeValue.{AttributeValue}
+use Rattle.attribute_values.specs.declared.AttributeValue.the-variants as AttributeValue
+use Rattle.attribute_values.specs.declared.Accessed.{Accessed}
+use Rattle.attribute_values.specs.declared.Accessed.the-variants as Accessed
 
 -- what a value carries: nothing; a span, by source, start and length; a signed number; a number's bits
 pub data Content : Type 0 where

@@ -4,8 +4,8 @@ use native.Mathlib.Omega.{arith}
 use Prim.Native.Nat.{_-_}
 use mathlib.Core.Path.{ap}
 use borrow.Author.Needs.{needs}
-use Rattle.forms.proofs.long_of.Statement.{statement}
-use Rattle.forms.proofs.long_of.Tie as tie
+use Rattle.attribute_values.proofs.long_of.Statement.{statement}
+use Rattle.attribute_values.proofs.long_of.Tie as tie
 
 cast-result : tie.Need-cast-result
 cast-result c = search needs

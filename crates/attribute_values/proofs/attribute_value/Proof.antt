@@ -1,12 +1,14 @@
-use Rattle.forms.proofs.Turns.{to-end}
-use Rattle.forms.specs.Value.{rowValue}
+use Rattle.attribute_values.specs.Value.{rowValue}
 use mathlib.Core.Path.{_∙_, ap}
-use Prim.Native.Nat.{_*_}
-use Rattle.forms.specs.Value.{attributeValue}
+use Prim.Native.Nat.{_*_, _-_}
+use native.Mathlib.Omega.{arith}
+use lib.ListN.{length, drop, length-drop}
+use lib.Seq.{take-all}
+use Rattle.attribute_values.specs.Value.{attributeValue}
 use borrow.Author.Tests.{lt-ltb, le-ltb}
 use borrow.Author.Needs.{needs}
-use Rattle.forms.proofs.attribute_value.Statement.{statement}
-use Rattle.forms.proofs.attribute_value.Tie as tie
+use Rattle.attribute_values.proofs.attribute_value.Statement.{statement}
+use Rattle.attribute_values.proofs.attribute_value.Tie as tie
 
 mul-at : tie.Need-mul-at
 mul-at c = search needs
@@ -30,7 +32,7 @@ returns : tie.Need-returns
 unfolding attributeValue
 returns c =
     let a = c .before .before .before .before .args in
-    rw (lt-ltb _ _ (c .before .before .if1 .taken)) (c .row-value .ensures ∙ ap rowValue (to-end (a .rows .now) (a .row * 8)))
+    rw (lt-ltb _ _ (c .before .before .if1 .taken)) (c .row-value .ensures ∙ ap rowValue (take-all (length (a .rows .now) - a .row * 8) (drop (a .row * 8) (a .rows .now)) (omega (arith, length-drop (a .row * 8) (a .rows .now)))))
 
 not-a-value-requires : tie.Need-not-a-value-requires
 not-a-value-requires c κs = search needs
