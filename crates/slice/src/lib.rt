@@ -2,8 +2,8 @@
 // table and the rows are lent to each call.
 pub mod queries;
 
+use header::Header;
 use scanner::Stepped;
-use wire::Header;
 use wire::Refusal;
 ghost use mathlib.Core.Path.{_≡_};
 ghost use Rattle.slice_spec.specs.Slice.{create, nextFrom, next};
@@ -34,7 +34,7 @@ pub fn create(document: &[u8], pool: &[u32]) -> Created
     if slice_bounds::sizes_bad(document, pool) {
         return Created::Refused(Refusal::new(Refusal::BAD_SIZE));
     }
-    match wire::check_magic(document) {
+    match header::check_magic(document) {
         Header::Passed => Created::Place(Place { at: 4, names: 0 }),
         Header::Refused(r) => Created::Refused(r),
     }

@@ -1,10 +1,10 @@
 // The chunk reader's `next`: the event that stands in the window, if all of it waits.
+use header::Header;
 use scanner::Stepped;
 use stream::Answer;
 use stream::Checked;
 use stream::Stream;
 use stream::check;
-use wire::Header;
 use wire::Refusal;
 ghost use mathlib.Core.Bool.{_&&_};
 ghost use mathlib.Core.Path.{_≡_};
@@ -122,7 +122,7 @@ fn next_header(
         }
         return Answer::NeedMore(stream);
     }
-    match wire::check_magic(&window[start..end]) {
+    match header::check_magic(&window[start..end]) {
         Header::Passed => next_from(stream, start + 4, window, table, store, rows),
         Header::Refused(r) => Answer::Refused(r),
     }

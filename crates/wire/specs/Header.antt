@@ -5,8 +5,6 @@ use Prim.Native.Nat.{ℕ, _+_, _*_, _/_, _%_}
 use lib.Dec.{ltb, eqb}
 use lib.ListN.{length, getD}
 use Rattle.wire.specs.Refusal.{headerShort, invalidMagic}
-use Rattle.wire.specs.declared.Header.{Header}
-use Rattle.wire.specs.declared.Header.the-variants as H
 
 -- four bytes as a u32, big-endian
 abbrev pub u32Of : ℕ → ℕ → ℕ → ℕ → ℕ
@@ -40,8 +38,3 @@ pub data Check : Type 0 where
 
 unfoldable pub header : List ℕ → Check
 header s = cond (ltb (length s) 4) (refused headerShort 0) (cond (eqb (u32At s 0) magic) passed (refused invalidMagic (u32At s 0)))
-
--- what the code's answer says
-abbrev pub headerOf : Header → Check
-headerOf H.Passed = passed
-headerOf (H.Refused r) = refused (r .number) (r .detail)

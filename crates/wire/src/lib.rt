@@ -1,14 +1,11 @@
-// The wire format's numbers: a token's command and type, the header, and the refusals, each named once.
+// The wire format's numbers: a token's command and type, and the refusals, each named once.
 pub mod limits;
 pub mod tokens;
 
 ghost use mathlib.Core.Path.{_≡_};
 ghost use Rattle.wire.specs.Token.{commandIn, typeIn, commands, types};
 ghost use Rattle.wire.specs.Refusal.{refusals};
-ghost use Rattle.wire.specs.Header.{u32Of, header, headerOf};
-
-// Every document begins with these four bytes.
-pub const MAGIC: [u8; 4] = [0x41, 0x42, 0x58, 0x00];
+ghost use Rattle.wire.specs.Header.{u32Of};
 
 // The index that means a new name follows.
 pub const INTERNED_NEW: u32 = 65535;
@@ -232,28 +229,4 @@ pub fn be32(a: u8, b: u8, c: u8, d: u8) -> u32
     ensures { λ r. ⌜ r ≡ u32Of a b c d ⌝ }
 {
     (((a as u32) * 256 + (b as u32)) * 256 + (c as u32)) * 256 + (d as u32)
-}
-
-// Whether a document starts as it must.
-pub enum Header {
-    Passed,
-    Refused(Refusal),
-}
-
-// The header of the document that input is.
-pub fn check_magic(input: &[u8]) -> Header
-    ensures { λ r. ⌜ headerOf r ≡ header (now (input .entry)) ⌝ }
-{
-    if input.len() < 4 {
-        return Header::Refused(Refusal::new(Refusal::HEADER_SHORT));
-    }
-    let actual = be32(input[0], input[1], input[2], input[3]);
-    if actual == be32(MAGIC[0], MAGIC[1], MAGIC[2], MAGIC[3]) {
-        Header::Passed
-    } else {
-        Header::Refused(Refusal {
-            number: Refusal::INVALID_MAGIC,
-            detail: actual,
-        })
-    }
 }

@@ -69,10 +69,10 @@ pub fn create(output: &mut [u8], pool: &[u32]) -> Written
     if output.len() < 4 {
         return refused(Refusal::OUTPUT_FULL);
     }
-    output[0] = wire::MAGIC[0];
-    output[1] = wire::MAGIC[1];
-    output[2] = wire::MAGIC[2];
-    output[3] = wire::MAGIC[3];
+    output[0] = header::MAGIC[0];
+    output[1] = header::MAGIC[1];
+    output[2] = header::MAGIC[2];
+    output[3] = header::MAGIC[3];
     Written::Wrote(Writer {
         written: 4,
         names: 0,

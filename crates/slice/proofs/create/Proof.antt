@@ -1,4 +1,4 @@
-use Rattle.wire.specs.Header.{headerOf}
+use Rattle.header.specs.Answers.{headerOf}
 use Rattle.slice_spec.specs.Slice.{create}
 use mathlib.Core.Path.{sym, ap, _∙_}
 use borrow.Author.Needs.{needs}

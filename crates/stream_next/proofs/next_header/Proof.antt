@@ -1,5 +1,5 @@
 use mathlib.Core.Path.{sym, ap, _∙_}
-use Rattle.wire.specs.Header.{headerOf}
+use Rattle.header.specs.Answers.{headerOf}
 use Rattle.stream.specs.Answers.{streamOf, lend}
 use Rattle.stream_next.proofs.Magic.{header-short, header-waits, header-there, header-other}
 use borrow.Author.Needs.{needs}

@@ -1,9 +1,9 @@
 use borrow.Author.Tests.{lt-ltb, le-ltb, eq-eqb, ne-eqb}
 use Rattle.wire.specs.Header.{header, u32At, magic}
 use mathlib.Core.Path.{_≡_, _∙_, sym}
 use borrow.Author.Needs.{needs}
-use Rattle.wire.proofs.check_magic.Statement.{statement}
-use Rattle.wire.proofs.check_magic.Tie as tie
+use Rattle.header.proofs.check_magic.Statement.{statement}
+use Rattle.header.proofs.check_magic.Tie as tie
 
 new-requires : tie.Need-new-requires
 new-requires c κs = search needs
