@@ -120,7 +120,7 @@ fn string(s: &[u8], at: usize, base: usize) -> Flat
     if s.len() - start < len {
         return declined();
     }
-    if utf8::is_utf8_part(s, start, len) {
+    if utf8_part::is_utf8_part(s, start, len) {
         return Flat {
             source: 0,
             a: (base + start) as u32,

@@ -14,10 +14,6 @@ pub record Ascii (s : List ℕ) (i j : ℕ) : Type 0 where
   pub inside : j ≤ length s
   pub low : (k : ℕ) → i ≤ k → k < j → getD s k 0 < 0x80
 
--- of the m octets of s from i on those are ASCII whose number in t is under n
-pub record Low (s : List ℕ) (i n : ℕ) (t : List ℕ) (m : ℕ) : Type 0 where
-  pub low : (k : ℕ) → k < m → getD t k 0 < n → getD s (i + k) 0 < 0x80
-
 -- a UTF8-char of n octets stands at i; none does where n is 0
 pub record Character (s : List ℕ) (i n : ℕ) : Type 0 where
   pub inside : i + n ≤ length s

@@ -94,7 +94,7 @@ fn part_size(store: &[u8], start: usize, len: usize) -> Size
             detail: len as u32,
         });
     }
-    if utf8::is_utf8_part(store, start, len) {
+    if utf8_part::is_utf8_part(store, start, len) {
         return Size::Takes(2 + len);
     }
     Size::Refused(Refusal::new(Refusal::INVALID_UTF8))

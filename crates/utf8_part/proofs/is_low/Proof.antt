@@ -1,14 +1,14 @@
--- `utf8::is_low` meets its contract. The invariant of its loop: where `all` is true, of k octets those are ASCII that are looked for.
+-- `utf8_part::is_low` meets its contract. The invariant of its loop: where `all` is true, of k octets those are ASCII that are looked for.
 -- Assumes nothing.
 use Prim.Native.Nat.{_-_, _≤_}
 use native.Mathlib.Omega.{arith}
 use mathlib.Core.Bool.{true}
 use mathlib.Core.Path.{_≡_}
 use borrow.Author.Needs.{needs}
-use Rattle.utf8.specs.Reading.{Low}
-use Rattle.utf8.proofs.Part.{low-none, low-more}
-use Rattle.utf8.proofs.is_low.Statement.{statement}
-use Rattle.utf8.proofs.is_low.Tie as tie
+use Rattle.utf8_part.specs.Reading.{Low}
+use Rattle.utf8_part.proofs.Part.{low-none, low-more}
+use Rattle.utf8_part.proofs.is_low.Statement.{statement}
+use Rattle.utf8_part.proofs.is_low.Tie as tie
 
 abbrev Inv-loop : tie.InvT-loop
 Inv-loop s i n places all₀ k₀ all k = (k ≤ 96) × (all ≡ true → Low s i n places k)

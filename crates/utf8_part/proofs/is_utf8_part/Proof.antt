@@ -1,15 +1,15 @@
--- `utf8::is_utf8_part` meets its contract.
+-- `utf8_part::is_utf8_part` meets its contract.
 -- Assumes nothing.
 use Prim.Native.Nat.{ℕ}
 use native.Mathlib.Nat.{add-sub-cancel-left}
 use native.Mathlib.Omega.{arith}
 use mathlib.Core.Path.{sym, ap, _∙_}
 use lib.ListN.{take, drop}
 use Rattle.utf8.specs.Utf8.{wellFormed}
-use Rattle.utf8.proofs.Part.{numbers, part-whole, part-empty, part-all}
+use Rattle.utf8_part.proofs.Part.{numbers, part-whole, part-empty, part-all}
 use borrow.Author.Needs.{needs}
-use Rattle.utf8.proofs.is_utf8_part.Statement.{statement}
-use Rattle.utf8.proofs.is_utf8_part.Tie as tie
+use Rattle.utf8_part.proofs.is_utf8_part.Statement.{statement}
+use Rattle.utf8_part.proofs.is_utf8_part.Tie as tie
 
 returns : tie.Need-returns
 returns c =

@@ -9,10 +9,10 @@ use lib.Dec.{leb, ltb}
 use borrow.Author.Tests.{lt-leb, ltb-true, ltb-false}
 use lib.ListN.{length, getD, take, drop, length-drop, drop-of-length-le}
 use lib.Seq.{getD-drop, take-all}
 use Rattle.utf8.specs.Utf8.{octets, wellFormed}
-use Rattle.utf8.specs.Reading.{Low}
+use Rattle.utf8_part.specs.Reading.{Low}
 use Rattle.utf8.proofs.Ascii.{whole}
 use Rattle.utf8.proofs.Tests.{split}
 
 module _ (s : List ℕ) (i n : ℕ) (t : List ℕ) where
   pub low-none : Low s i n t 0
