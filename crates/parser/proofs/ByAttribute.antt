@@ -33,7 +33,7 @@ use Rattle.slice_spec.specs.Queries.{Query}
 use Rattle.slice_spec.specs.Parser.{asks}
 use Rattle.parser.specs.Answers.{held, parserOf, askedOf}
 use Rattle.parser.specs.declared.AbxParser.{AbxParser}
-use Rattle.parser.specs.declared.Sought.{Sought}
+use Rattle.parser_steps.specs.declared.Sought.{Sought}
 use Rattle.parser.proofs.Held.{sl, parts, machine}
 use Rattle.parser.proofs.Method.{made}
 use Rattle.parser.proofs.Results.{sought, answer-of}

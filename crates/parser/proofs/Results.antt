@@ -26,15 +26,15 @@ use denote.Struct.Declared.{Declared, row}
 use denote.Struct.Field.{Field, rows, usize-field}
 use denote.Struct.Laws.{FLaws, Plain, Laws, usize-laws}
 use denote.Struct.Laws as LL
-use Rattle.parser.specs.declared.Sought.{Sought}
-use Rattle.parser.specs.declared.Stepped.{Stepped}
+use Rattle.parser_steps.specs.declared.Sought.{Sought}
+use Rattle.parser_steps.specs.declared.Stepped.{Stepped}
 use Rattle.parser.proofs.Method.{result}
-use Rattle.parser.proofs.Sought as Sought′
-use Rattle.parser.proofs.Asked as Asked
-use Rattle.parser.proofs.Asked.Laws as Asked′
-use Rattle.parser.proofs.Stepped as Stepped′
-use Rattle.parser.proofs.Parsed as Parsed
-use Rattle.parser.proofs.Parsed.Laws as Parsed′
+use Rattle.parser_steps.proofs.Sought as Sought′
+use Rattle.parser_steps.proofs.Asked as Asked
+use Rattle.parser_steps.proofs.Asked.Laws as Asked′
+use Rattle.parser_steps.proofs.Stepped as Stepped′
+use Rattle.parser_steps.proofs.Parsed as Parsed
+use Rattle.parser_steps.proofs.Parsed.Laws as Parsed′
 
 pub record Result : Type 2 where
   pub name : Sym

@@ -1,14 +1,13 @@
 // The slice reader that carries the caller's document with it: a struct over the calls of the crates slice and slice_queries.
-use slice::Created;
-use slice::Next;
+use parser_steps::Asked;
+use parser_steps::Parsed;
+use parser_steps::Sought;
 use slice::Place;
-use slice::queries::Queried;
-use wire::Refusal;
 ghost use mathlib.Core.Path.{_≡_};
 ghost use denote.Ref.{ptr};
 ghost use Rattle.slice_spec.specs.Queries.{find-attribute, attributes-of, find-all-attributes, all-attributes-of};
 ghost use Rattle.slice_spec.specs.Parser.{new, next, asks, text, textAt};
-ghost use Rattle.parser.specs.Answers.{held, parserOf, openedOf, leftOf, soughtOf, refusedAt, askedOf};
+ghost use Rattle.parser.specs.Answers.{held, parserOf, leftOf, askedOf};
 
 // A document, the place of its next event, and how many pairs of the pool table are names; then the number and detail of a
 // refused `new`, 0 if it was not refused. They stand here because an enum can't hold a reference.
@@ -20,159 +19,7 @@ pub struct AbxParser<'a> {
     pub detail: u32,
 }
 
-// What next_event answers: an event of so many rows, whose place after it went into the parser; the end; or a refusal.
-pub enum Parsed {
-    Event(usize),
-    End,
-    Refused(Refusal),
-}
-
-// What a query answers: how it ended, how many events it consumed, and how many rows it wrote. A refused query keeps what it
-// found before.
-pub enum Asked {
-    Found {
-        events: usize,
-        rows: usize,
-    },
-    Done {
-        events: usize,
-        rows: usize,
-    },
-    Refused {
-        refusal: Refusal,
-        events: usize,
-        rows: usize,
-    },
-}
-
-// ---- what the methods do, with the struct's fields as parameters
-
-// The numbers of a new parser.
-struct Opened {
-    at: usize,
-    names: usize,
-    number: u32,
-    detail: u32,
-}
-
-fn start(document: &[u8], pool: &[u32]) -> Opened
-    ensures { λ r. ⌜ openedOf (document .entry) r ≡ new (now (document .entry)) (ptr (document .entry)) (now (pool .entry)) ⌝ }
-{
-    match slice::create(document, pool) {
-        Created::Place(p) => Opened {
-            at: p.at,
-            names: p.names,
-            number: 0,
-            detail: 0,
-        },
-        Created::Refused(r) => Opened {
-            at: 0,
-            names: 0,
-            number: r.number,
-            detail: r.detail,
-        },
-    }
-}
-
-// The place of a parser that has answered, and the answer.
-struct Stepped {
-    at: usize,
-    names: usize,
-    answer: Parsed,
-}
-
-fn step(
-    document: &[u8],
-    at: usize,
-    names: usize,
-    number: u32,
-    detail: u32,
-    pool: &mut [u32],
-    rows: &mut [u32],
-) -> Stepped
-    ensures { λ r. ⌜ leftOf (held (document .entry) (r .at) (r .names) number detail) (now (pool .exit)) (now (rows .exit)) (r .answer)
-        ≡ next (parserOf (held (document .entry) at names number detail)) (now (pool .entry)) (now (rows .entry)) ⌝ }
-{
-    if number != 0 {
-        return Stepped {
-            at,
-            names,
-            answer: Parsed::Refused(Refusal { number, detail }),
-        };
-    }
-    match slice::next_event(Place { at, names }, document, pool, rows) {
-        Next::Event { rows: count, place } => Stepped {
-            at: place.at,
-            names: place.names,
-            answer: Parsed::Event(count),
-        },
-        Next::End => Stepped {
-            at,
-            names,
-            answer: Parsed::End,
-        },
-        Next::Refused(r) => Stepped {
-            at,
-            names,
-            answer: Parsed::Refused(r),
-        },
-    }
-}
-
-// The place of a parser that was asked, and the answer.
-struct Sought {
-    at: usize,
-    names: usize,
-    answer: Asked,
-}
-
-// What the slice reader answered, its place apart.
-fn apart(queried: Queried) -> Sought
-    ensures { λ r. ⌜ r ≡ soughtOf queried ⌝ }
-{
-    match queried {
-        Queried::Found(found) => Sought {
-            at: found.place.at,
-            names: found.place.names,
-            answer: Asked::Found {
-                events: found.events,
-                rows: found.rows,
-            },
-        },
-        Queried::Done(done) => Sought {
-            at: done.place.at,
-            names: done.place.names,
-            answer: Asked::Done {
-                events: done.events,
-                rows: done.rows,
-            },
-        },
-        Queried::Refused { refusal, reached } => Sought {
-            at: reached.place.at,
-            names: reached.place.names,
-            answer: Asked::Refused {
-                refusal,
-                events: reached.events,
-                rows: reached.rows,
-            },
-        },
-    }
-}
-
-// A refused `new` is the answer, and nothing was consumed.
-fn unasked(at: usize, names: usize, number: u32, detail: u32) -> Sought
-    ensures { λ r. ⌜ r ≡ refusedAt at names number detail ⌝ }
-{
-    Sought {
-        at,
-        names,
-        answer: Asked::Refused {
-            refusal: Refusal { number, detail },
-            events: 0,
-            rows: 0,
-        },
-    }
-}
+// ---- the queries, with the struct's fields as parameters
 
 fn find_attribute(
     document: &[u8],
@@ -189,9 +36,16 @@ fn find_attribute(
         ≡ asks (find-attribute (now (element .entry)) (now (name .entry))) (parserOf (held (document .entry) at names number detail)) (now (pool .entry)) (now (rows .entry)) ⌝ }
 {
     if number != 0 {
-        return unasked(at, names, number, detail);
+        return parser_steps::unasked(at, names, number, detail);
     }
-    apart(slice_queries::find_attribute(Place { at, names }, document, pool, rows, element, name))
+    parser_steps::apart(slice_queries::find_attribute(
+        Place { at, names },
+        document,
+        pool,
+        rows,
+        element,
+        name,
+    ))
 }
 
 fn attributes_of(
@@ -208,9 +62,15 @@ fn attributes_of(
         ≡ asks (attributes-of (now (element .entry))) (parserOf (held (document .entry) at names number detail)) (now (pool .entry)) (now (rows .entry)) ⌝ }
 {
     if number != 0 {
-        return unasked(at, names, number, detail);
+        return parser_steps::unasked(at, names, number, detail);
     }
-    apart(slice_queries::attributes_of(Place { at, names }, document, pool, rows, element))
+    parser_steps::apart(slice_queries::attributes_of(
+        Place { at, names },
+        document,
+        pool,
+        rows,
+        element,
+    ))
 }
 
 fn find_all_attributes(
@@ -228,9 +88,9 @@ fn find_all_attributes(
         ≡ asks (find-all-attributes (now (element .entry)) (now (name .entry))) (parserOf (held (document .entry) at names number detail)) (now (pool .entry)) (now (rows .entry)) ⌝ }
 {
     if number != 0 {
-        return unasked(at, names, number, detail);
+        return parser_steps::unasked(at, names, number, detail);
     }
-    apart(slice_queries::find_all_attributes(
+    parser_steps::apart(slice_queries::find_all_attributes(
         Place { at, names },
         document,
         pool,
@@ -254,9 +114,15 @@ fn all_attributes_of(
         ≡ asks (all-attributes-of (now (element .entry))) (parserOf (held (document .entry) at names number detail)) (now (pool .entry)) (now (rows .entry)) ⌝ }
 {
     if number != 0 {
-        return unasked(at, names, number, detail);
+        return parser_steps::unasked(at, names, number, detail);
     }
-    apart(slice_queries::all_attributes_of(Place { at, names }, document, pool, rows, element))
+    parser_steps::apart(slice_queries::all_attributes_of(
+        Place { at, names },
+        document,
+        pool,
+        rows,
+        element,
+    ))
 }
 
 // ---- the parser
@@ -266,7 +132,7 @@ impl<'a> AbxParser<'a> {
     pub fn new(document: &'a [u8], pool: &[u32]) -> AbxParser<'a>
         ensures { λ r. ⌜ parserOf r ≡ new (now (document .entry)) (ptr (document .entry)) (now (pool .entry)) ⌝ }
     {
-        let s = start(document, pool);
+        let s = parser_steps::start(document, pool);
         AbxParser {
             document,
             at: s.at,
@@ -280,7 +146,7 @@ impl<'a> AbxParser<'a> {
     pub fn next_event(&mut self, pool: &mut [u32], rows: &mut [u32]) -> Parsed
         ensures { λ r. ⌜ leftOf (now (self .exit)) (now (pool .exit)) (now (rows .exit)) r ≡ next (parserOf (now (self .entry))) (now (pool .entry)) (now (rows .entry)) ⌝ }
     {
-        let s = step(
+        let s = parser_steps::step(
             self.document,
             self.at,
             self.names,

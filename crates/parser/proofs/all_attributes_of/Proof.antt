@@ -7,7 +7,7 @@ unasked-requires : tie.Need-unasked-requires
 unasked-requires c κs = search needs
 
 returns : tie.Need-returns
-returns c = asks-refused _ _ _ _ _ _ _ _ _ (c .before .if1 .taken) (c .unasked .ensures)
+returns c = asks-refused _ _ _ _ _ _ _ _ _ _ (c .before .if1 .taken) (c .unasked .ensures)
 
 all-attributes-of-requires : tie.Need-all-attributes-of-requires
 all-attributes-of-requires c κs = search needs
@@ -24,7 +24,7 @@ same-length-2 c = search needs
 returns-2 : tie.Need-returns-2
 returns-2 c =
     let q = c .before .before .before .before .before .all-attributes-of in
-    asks-goes _ _ _ _ _ _ _ _ _ _ (q .result) _ (c .before .before .before .before .before .before .before .before .if1 .left)
+    asks-goes _ _ _ _ _ _ _ _ _ _ _ (q .result) _ (c .before .before .before .before .before .before .before .before .if1 .left)
     (c .apart .ensures) (q .ensures)
 
 pub all-attributes-of-spec : {M : Type 1} → statement M

@@ -40,17 +40,18 @@ use denote.Triple.Table.{entered, cited}
 use denote.Triple.Walked.{says, Stays, stay-dropped, walkOf, goes-dropped, Walks, ends-at, walked, walk-meets}
 use denote.Exit.{yes}
 use Rattle.slice_spec.specs.Parser.{new}
-use Rattle.parser.specs.Answers.{held, openedOf}
+use Rattle.parser_steps.specs.Answers.{openedOf}
+use Rattle.parser.specs.Answers.{held}
 use Rattle.parser.specs.declared.AbxParser.{AbxParser}
-use Rattle.parser.specs.declared.Opened.{Opened}
+use Rattle.parser_steps.specs.declared.Opened.{Opened}
 use Rattle.parser.proofs.Held.{sl, Fit, doc-in}
 use Rattle.parser.proofs.AbxParser.Laws as T′
-use Rattle.parser.proofs.Opened as R
-use Rattle.parser.proofs.Opened.Laws as R′
-use Rattle.parser.proofs.start as callee
-use Rattle.parser.proofs.start.Symbol as callee-def
-use Rattle.parser.proofs.start.Symbol.{name as #callee}
-use Rattle.parser.proofs.start.Met as callee-thm
+use Rattle.parser_steps.proofs.Opened as R
+use Rattle.parser_steps.proofs.Opened.Laws as R′
+use Rattle.parser_steps.proofs.start as callee
+use Rattle.parser_steps.proofs.start.Symbol as callee-def
+use Rattle.parser_steps.proofs.start.Symbol.{name as #callee}
+use Rattle.parser_steps.proofs.start.Met as callee-thm
 use Rattle.parser.proofs.AbxParser.new.Key.{name as #self}
 use Rattle.parser.proofs.AbxParser.new as self
 use Rattle.parser.proofs.AbxParser.new.Statement as stated
@@ -115,7 +116,7 @@ module _ {M : Type 1} (𝓤 : URA M) (H : Heap 𝓤) (A : Atoms 𝓤) (W : Given
       move ! (0 ∷ 2 ∷ []) $ fjoin ! $ move ! (2 ∷ 0 ∷ []) $ use2 W (raw (Callee 𝓤 H A mem run .pre to)) asked $ frame ! $ done !
 
   abbrev Said : Opened → Type 0
-  Said r = openedOf s r ≡ new (now s) (ptr s) (now pool)
+  Said r = openedOf (now s) (ptr s) r ≡ new (now s) (ptr s) (now pool)
 
   -- of the callee's `ensured`, the clause alone
   said : (r : Opened) → ent 𝓤 (ensured 𝓤 H A callee.ended (callee.clauses 𝓤 H A mem run) ls a tt r) (fact 𝓤 (Said r))
@@ -194,5 +195,5 @@ new-spec 𝓤 H 𝓜 𝓖 𝓡 =
     entered 𝓤 H (tripleOf 𝓤 H (𝓖 .A) self.signature (self.spec 𝓤 H (𝓖 .A) (𝓜 .mem) (𝓡 .run)))
     (tables 𝓤 H 𝓜 𝓡 code.env .C) (tables 𝓤 H 𝓜 𝓡 code.env .Λ) #self code.function (code.unfolded 𝓤 H 𝓜 𝓡)
     (meets 𝓤 H (𝓖 .A) (givenOf 𝓤 H 𝓜 𝓖) (𝓜 .mem) (𝓡 .run) (tablesOf 𝓤 H 𝓜 (tables 𝓤 H 𝓜 𝓡 code.env))
-    (cited 𝓤 H (Callee 𝓤 H (𝓖 .A) (𝓜 .mem) (𝓡 .run)) 𝓜 𝓡 code.env #callee callee-def.routine code.calls-parser·start
+    (cited 𝓤 H (Callee 𝓤 H (𝓖 .A) (𝓜 .mem) (𝓡 .run)) 𝓜 𝓡 code.env #callee callee-def.routine code.calls-parser-steps·start
     (callee-thm.met 𝓤 H 𝓜 𝓖 𝓡)))

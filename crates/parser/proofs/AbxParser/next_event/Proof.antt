@@ -31,15 +31,15 @@ use denote.Triple.Walked.{says, Stays, stay-ref, gave-slice, onExit, walkOf, goe
 use Rattle.slice_spec.specs.Parser.{next}
 use Rattle.parser.specs.Answers.{held, parserOf, leftOf}
 use Rattle.parser.specs.declared.AbxParser.{AbxParser}
-use Rattle.parser.specs.declared.Stepped.{Stepped}
+use Rattle.parser_steps.specs.declared.Stepped.{Stepped}
 use Rattle.parser.proofs.Held.{sl, parts, machine}
 use Rattle.parser.proofs.Results.{stepped, answer-of}
 use Rattle.parser.proofs.Shared.{none}
 use Rattle.parser.proofs.Walk as Walk
 use Rattle.parser.proofs.AbxParser as T
-use Rattle.parser.proofs.step as callee
-use Rattle.parser.proofs.step.Symbol as callee-def
-use Rattle.parser.proofs.step.Met.{met}
+use Rattle.parser_steps.proofs.step as callee
+use Rattle.parser_steps.proofs.step.Symbol as callee-def
+use Rattle.parser_steps.proofs.step.Met.{met}
 use Rattle.parser.proofs.AbxParser.next_event.Key.{name}
 use Rattle.parser.proofs.AbxParser.next_event as self
 use Rattle.parser.proofs.AbxParser.next_event.Statement.{statement}
@@ -125,5 +125,5 @@ next-event-spec 𝓤 H 𝓜 𝓖 𝓡 =
     entered 𝓤 H (tripleOf 𝓤 H (𝓖 .A) self.signature (self.spec 𝓤 H (𝓖 .A) (𝓜 .mem) (𝓡 .run)))
     (tables 𝓤 H 𝓜 𝓡 code.env .C) (tables 𝓤 H 𝓜 𝓡 code.env .Λ) name code.function (code.unfolded 𝓤 H 𝓜 𝓡)
     (meets 𝓤 H (𝓖 .A) (givenOf 𝓤 H 𝓜 𝓖) (𝓜 .mem) (𝓡 .run) (tablesOf 𝓤 H 𝓜 (tables 𝓤 H 𝓜 𝓡 code.env))
-    (cited 𝓤 H (Callee 𝓤 H (𝓖 .A) (𝓜 .mem) (𝓡 .run)) 𝓜 𝓡 code.env callee-def.name callee-def.routine code.calls-parser·step
+    (cited 𝓤 H (Callee 𝓤 H (𝓖 .A) (𝓜 .mem) (𝓡 .run)) 𝓜 𝓡 code.env callee-def.name callee-def.routine code.calls-parser-steps·step
     (met 𝓤 H 𝓜 𝓖 𝓡)))

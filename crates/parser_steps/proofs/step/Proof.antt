@@ -1,15 +1,15 @@
 use mathlib.Core.Path.{ap, sym, _∙_}
 use Rattle.slice.specs.Answers.{nextOf}
 use Rattle.slice.specs.declared.Next.the-variants.{Event, End, Refused}
-use Rattle.parser.proofs.Cases.{next-refused, next-goes}
+use Rattle.parser_steps.proofs.Cases.{next-refused, next-goes}
 use borrow.Author.Needs.{needs}
-use Rattle.parser.proofs.step.Statement.{statement}
-use Rattle.parser.proofs.step.Tie as tie
+use Rattle.parser_steps.proofs.step.Statement.{statement}
+use Rattle.parser_steps.proofs.step.Tie as tie
 
 returns : tie.Need-returns
 returns c =
     let a = c .before .before .before .before .args in
-    next-refused (a .document) _ _ _ _ _ _ (c .if1 .taken)
+    next-refused (a .document .now) (a .document .ptr) _ _ _ _ _ _ (c .if1 .taken)
 
 next-event-requires : tie.Need-next-event-requires
 next-event-requires c κs = search needs
@@ -32,7 +32,7 @@ same-length-2 c = search needs
 returns-2 : tie.Need-returns-2
 returns-2 c =
     let a = c .before .before .before .before .before .before .before .before .before .before .before .before .before .before .args in
-    next-goes (a .document) _ _ _ _ _ _ _ _ (Event _ _) (c .before .before .before .before .before .before .before .before .before .before .if1 .left)
+    next-goes (a .document .now) (a .document .ptr) _ _ _ _ _ _ _ _ (Event _ _) (c .before .before .before .before .before .before .before .before .before .before .if1 .left)
     (ap (nextOf _ _ _) (sym (c .before .count .given .1)) ∙ c .before .before .before .before .before .before .before .next-event .ensures)
 
 same-length-3 : tie.Need-same-length-3
@@ -44,7 +44,7 @@ same-length-4 c = search needs
 returns-3 : tie.Need-returns-3
 returns-3 c =
     let a = c .before .before .before .before .before .before .before .before .before .before .before .before .before .args in
-    next-goes (a .document) _ _ _ _ _ _ _ _ End (c .before .before .before .before .before .before .before .before .before .if1 .left)
+    next-goes (a .document .now) (a .document .ptr) _ _ _ _ _ _ _ _ End (c .before .before .before .before .before .before .before .before .before .if1 .left)
     (ap (nextOf _ _ _) (sym (c .enum-told .given .1)) ∙ c .before .before .before .before .before .before .next-event .ensures)
 
 same-length-5 : tie.Need-same-length-5
@@ -56,7 +56,7 @@ same-length-6 c = search needs
 returns-4 : tie.Need-returns-4
 returns-4 c =
     let a = c .before .before .before .before .before .before .before .before .before .before .before .before .before .before .args in
-    next-goes (a .document) _ _ _ _ _ _ _ _ (Refused _) (c .before .before .before .before .before .before .before .before .before .before .if1 .left)
+    next-goes (a .document .now) (a .document .ptr) _ _ _ _ _ _ _ _ (Refused _) (c .before .before .before .before .before .before .before .before .before .before .if1 .left)
     (ap (nextOf _ _ _) (sym (c .before .r .given .1)) ∙ c .before .before .before .before .before .before .before .next-event .ensures)
 
 pub step-spec : {M : Type 1} → statement M

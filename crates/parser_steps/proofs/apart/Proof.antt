@@ -1,8 +1,8 @@
 use mathlib.Core.Path.{sym, ap}
-use Rattle.parser.specs.Answers.{soughtOf}
+use Rattle.parser_steps.specs.Answers.{soughtOf}
 use borrow.Author.Needs.{needs}
-use Rattle.parser.proofs.apart.Statement.{statement}
-use Rattle.parser.proofs.apart.Tie as tie
+use Rattle.parser_steps.proofs.apart.Statement.{statement}
+use Rattle.parser_steps.proofs.apart.Tie as tie
 
 enum-known-queried : tie.Need-enum-known-queried
 enum-known-queried c = search needs

@@ -3,8 +3,8 @@ use denote.Ref.{now, ptr}
 use Rattle.slice_spec.specs.Parser.{new, byCreated}
 use Rattle.slice.specs.Answers.{createdOf}
 use borrow.Author.Needs.{needs}
-use Rattle.parser.proofs.start.Statement.{statement}
-use Rattle.parser.proofs.start.Tie as tie
+use Rattle.parser_steps.proofs.start.Statement.{statement}
+use Rattle.parser_steps.proofs.start.Tie as tie
 
 create-requires : tie.Need-create-requires
 create-requires c κs = search needs
