@@ -1,13 +1,10 @@
--- What callers may cite of names that differ, and of slots: each is one of those that there are.
+-- What callers may cite of names that differ.
 use mathlib.Core.Bool.{Bool, true, false}
 use mathlib.Core.List.{List}
 use mathlib.Core.Path.{_≡_, refl}
-use Prim.Native.Nat.{ℕ, _*_, _/_, _%_, _<_}
-use native.Mathlib.Nat.{mod-lt, div-lt-iff-lt-mul, mul-lt-mul-of-pos-right, mul-comm}
-use native.Mathlib.Omega.{arith}
+use Prim.Native.Nat.{ℕ}
 use Rattle.event.specs.Span.{same}
 use Rattle.event.specs.Laws.{same-eq}
-use Rattle.names.specs.Slots.{slotBy, slotOf}
 
 pub same-not : (a b : List ℕ) → (a ≡ b → ⊥) → same a b ≡ false
 same-not a b h = go (same a b) refl
@@ -15,16 +12,3 @@ same-not a b h = go (same a b) refl
     go : (t : Bool) → same a b ≡ t → same a b ≡ false
     go true e = absurd (h (same-eq a b e))
     go false e = e
-
-scaled : (x slots : ℕ) → 0 < slots → x % 4294967296 * slots / 4294967296 < slots
-scaled x slots h =
-    div-lt-iff-lt-mul {k = 4294967296} (omega arith)
-    .1 (rw (mul-comm slots 4294967296) (mul-lt-mul-of-pos-right {m = x % 4294967296} {n = 4294967296} (mod-lt x (omega arith)) h))
-
-pub slot-by-below : (slots x : ℕ) → 0 < slots → slotBy slots x < slots
-unfolding slotBy
-slot-by-below slots x h = scaled (x % 4294967296 * 2654435761) slots h
-
-pub slot-below : (slots : ℕ) (n : List ℕ) → 0 < slots → slotOf slots n < slots
-unfolding slotOf
-slot-below slots n h = slot-by-below slots _ h

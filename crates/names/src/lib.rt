@@ -1,11 +1,10 @@
-// Names as the writer compares and hashes them, and their slots.
+// Names as the writer compares and hashes them.
 ghost use mathlib.Core.Path.{_≡_};
 ghost use Prim.Native.Nat.{_+_, _≤_, _<_};
 ghost use lib.ListN.{length};
 ghost use Rattle.wire.specs.Header.{u32At};
 ghost use Rattle.event.specs.Span.{same};
 ghost use Rattle.names.specs.Hash.{mix, fewBytes, manyBytes, hashOf};
-ghost use Rattle.names.specs.Slots.{slotBy, slotOf};
 
 // Four bytes from a place on as a number.
 fn four_at(s: &[u8], at: usize) -> u32
@@ -64,21 +63,6 @@ pub fn hash(name: &[u8]) -> u64
         return mix(len as u64, four_at(name, 0), four_at(name, len - 4));
     }
     many_bytes(name)
-}
-
-// A number's slot, among so many.
-pub fn slot_by(mixed: u64, slots: u16) -> usize
-    ensures { λ r. ⌜ r ≡ slotBy slots mixed ⌝ }
-{
-    let spread = mixed % 4_294_967_296 * 2_654_435_761 % 4_294_967_296;
-    (spread * (slots as u64) / 4_294_967_296) as usize
-}
-
-// A name's slot.
-pub fn slot_of(name: &[u8], slots: u16) -> usize
-    ensures { λ r. ⌜ r ≡ slotOf slots (now (name .entry)) ⌝ }
-{
-    slot_by(hash(name), slots)
 }
 
 // Whether two names are the same. Names of one length differ most often in their ends, which are compared first.

@@ -12,7 +12,7 @@ use lib.Seq.{getD-set-same, getD-set-other}
 use Rattle.event.specs.Span.{same}
 use Rattle.event.specs.Laws.{same-refl}
 use Rattle.names.specs.Laws.{same-not}
-use Rattle.names.specs.Slots.{slotOf, Fresh}
+use Rattle.slots.specs.Slots.{slotOf, Fresh}
 use Rattle.grammar.specs.Choice.{byTest}
 use Rattle.writer_spec.specs.Search.{endOf}
 use Rattle.pool_index.specs.Search.{searched}

@@ -3,7 +3,7 @@ ghost use mathlib.Core.Path.{_≡_};
 ghost use Prim.Native.Nat.{_+_, _*_, _-_, _≤_, _<_};
 ghost use lib.ListN.{length, getD, set, take, drop};
 ghost use Rattle.event.specs.Span.{same};
-ghost use Rattle.names.specs.Slots.{slotOf, Fresh};
+ghost use Rattle.slots.specs.Slots.{slotOf, Fresh};
 ghost use Rattle.writer_spec.specs.Search.{endOf};
 ghost use Rattle.pool_index.specs.Search.{searched, foundOf};
 ghost use Rattle.pool_index.specs.Index.{pairName, Inside, Indexed, MaybeIndexed};
@@ -78,7 +78,7 @@ fn pair_slot(output: &[u8], pool: &[u32], i: usize) -> usize
 {
     let start = pool[2 * i] as usize;
     let len = pool[2 * i + 1] as usize;
-    names::slot_of(&output[start..start + len], 16_384)
+    slots::slot_of(&output[start..start + len], 16_384)
 }
 
 // A pair goes before the others of its slot.
@@ -114,7 +114,7 @@ fn search_index(output: &[u8], pool: &[u32], names: usize, name: &[u8], index: &
     requires { ⌜ length (now index) ≡ 81920 ⌝ }
     ensures { λ r. ⌜ (Indexed (now (output .entry)) (now (pool .entry)) names (now (index .entry)) → foundOf r ≡ searched (now (output .entry)) names (now (pool .entry)) (now (name .entry))) ⌝ }
 {
-    let mut next = index[names::slot_of(name, 16_384)] as usize;
+    let mut next = index[slots::slot_of(name, 16_384)] as usize;
     while next != 0 {
         let i = 65_535 - next;
         if names <= i {

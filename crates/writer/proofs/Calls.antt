@@ -17,7 +17,7 @@ use Rattle.grammar.specs.Choice.{neither}
 use Rattle.writer_spec.specs.Laws.{both-forms, pool-count}
 use Rattle.writer_spec.specs.Unrefused.{fits}
 use Rattle.writer.specs.Answers.{lentOf, formsBy}
-use Rattle.names.specs.Slots.{Fresh}
+use Rattle.slots.specs.Slots.{Fresh}
 use Rattle.writer.specs.Passes.{most-notes, callFault, Slots, MeasureSays, TriedBy, Ready}
 use Rattle.wire.specs.declared.Refusal as Wire
 use Rattle.writer.specs.declared.Writer as Code

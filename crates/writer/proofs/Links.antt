@@ -12,7 +12,7 @@ use lib.Seq.{getD-append-add, getD-set-same, getD-set-other}
 use Rattle.event.specs.Span.{span, same}
 use Rattle.event.specs.Laws.{same-refl}
 use Rattle.grammar.specs.Choice.{byTest}
-use Rattle.names.specs.Slots.{slotOf}
+use Rattle.slots.specs.Slots.{slotOf}
 use Rattle.writer.specs.Notes.{noteName, noteLink, count, Chain, Linked, LookSays, Recalled}
 use Rattle.writer.specs.declared.notes.Look.the-variants as Look
 

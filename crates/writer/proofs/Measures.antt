@@ -22,7 +22,7 @@ use Rattle.writer_spec.specs.Faults.{stringFault, valueFault}
 use Rattle.writer_spec.specs.Writer.{Refusal, _before_, refuseIf, rowRefusal}
 use Rattle.byte_copy.specs.Sets.{take-sets}
 use Rattle.writer.specs.Answers.{takes, stops, measured, sizeOf, placed, barred, placedBy, nameFoundOf}
-use Rattle.names.specs.Slots.{slotOf}
+use Rattle.slots.specs.Slots.{slotOf}
 use Rattle.writer.specs.Notes.{noteName, noteIndex, count, Unnoted, LookSays}
 use Rattle.writer.specs.declared.notes.Look.the-variants as Look
 use Rattle.wire.specs.declared.Refusal as Wire

@@ -18,7 +18,7 @@ use Rattle.writer_spec.specs.Writer.{Lent, rowRefusal, roomRefusal, ends, rowsR
 use Rattle.writer_spec.specs.Wrote.{keepRows-append}
 use Rattle.writer_spec.specs.Held.{rows-bounded}
 use Rattle.writer.specs.Answers.{lentOf, faultOf}
-use Rattle.names.specs.Slots.{Fresh}
+use Rattle.slots.specs.Slots.{Fresh}
 use Rattle.writer.specs.Notes.{Unnoted}
 use Rattle.writer.specs.Passes.{roomOf, endsAt, most-notes, Settled, AllSettled, bad, found, Known, Kept, RowTakes, RowSays, RowMeasured, MeasureSays}
 use Rattle.wire.specs.declared.Refusal as Wire

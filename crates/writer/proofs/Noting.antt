@@ -14,7 +14,7 @@ use Rattle.grammar.specs.Document.{Pool}
 use Rattle.grammar.specs.Choice.{byTest}
 use Rattle.writer_spec.specs.Encode.{find}
 use Rattle.writer_spec.specs.Faults.{stringFault}
-use Rattle.names.specs.Slots.{slotOf, Fresh}
+use Rattle.slots.specs.Slots.{slotOf, Fresh}
 use Rattle.writer.specs.Notes.{noteName, noteIndex, count, Unnoted, LookSays, Noted}
 use Rattle.writer.specs.Passes.{Settled}
 use Rattle.writer.specs.declared.notes.Look.the-variants as Look

@@ -18,7 +18,7 @@ ghost use Rattle.event.specs.Row.{rowAt};
 ghost use Rattle.writer_spec.specs.Encode.{find};
 ghost use Rattle.writer_spec.specs.Writer.{poolAt, meetsBad, rowsIn};
 ghost use Rattle.writer.specs.Answers.{faultOf, placedBy, nameFoundOf};
-ghost use Rattle.names.specs.Slots.{slotOf, Fresh};
+ghost use Rattle.slots.specs.Slots.{slotOf, Fresh};
 ghost use Rattle.pool_index.specs.Index.{MaybeIndexed};
 ghost use Rattle.writer.specs.Notes.{Unnoted};
 ghost use Rattle.writer.specs.Passes.{nameRefusal, roomOf, capped, endsAt, Slots, Kept, NameMeasured, RowNameMeasured, RowMeasured, MeasureSays};
@@ -138,7 +138,7 @@ fn name_size<'a>(
 {
     if event::has_name(w[0]) {
         let name = sizes::name_in(first, second, w);
-        let slot = names::slot_of(name, heads.len() as u16);
+        let slot = slots::slot_of(name, heads.len() as u16);
         return match notes::look_up(first, second, w, name, &notes[..used], heads, slot) {
             Look::At(_) => NameSize::Takes {
                 size: 2,

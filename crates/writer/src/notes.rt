@@ -7,7 +7,7 @@ ghost use Prim.Native.Nat.{_+_, _*_, _/_, _≤_, _<_};
 ghost use lib.ListN.{length, getD, set};
 ghost use lib.Seq.{sets};
 ghost use Rattle.event.specs.Span.{span, same};
-ghost use Rattle.names.specs.Slots.{slotOf};
+ghost use Rattle.slots.specs.Slots.{slotOf};
 ghost use Rattle.writer.specs.Notes.{noteName, Linked, LookSays, Recalled};
 ghost use Rattle.writer.specs.Passes.{most-notes, Slots};
 
@@ -101,7 +101,7 @@ pub(crate) fn recall(w: &[u32], notes: &[u32], seen: &[u16]) -> Look
     ensures { λ r. ⌜ Recalled (now (w .entry)) (now (notes .entry)) r ⌝ }
 {
     let start = w[2];
-    let k = seen[names::slot_by(start as u64, seen.len() as u16)] as usize;
+    let k = seen[slots::slot_by(start as u64, seen.len() as u16)] as usize;
     let note = 5 * k;
     if notes.len() < note + 5 {
         return Look::Nowhere;
@@ -120,7 +120,7 @@ pub(crate) fn recall(w: &[u32], notes: &[u32], seen: &[u16]) -> Look
 pub(crate) fn remember(start: u32, k: u16, seen: &mut [u16])
     requires { ⌜ Slots (length (now seen)) ⌝ }
 {
-    let place = names::slot_by(start as u64, seen.len() as u16);
+    let place = slots::slot_by(start as u64, seen.len() as u16);
     if seen[place] == 0 {
         seen[place] = k;
     }

@@ -44,7 +44,7 @@ fn known_name<'a>(
 {
     if event::has_name(w[0]) {
         let name = sizes::name_in(first, second, w);
-        let slot = names::slot_of(name, heads.len() as u16);
+        let slot = slots::slot_of(name, heads.len() as u16);
         if let Look::At(i) = notes::look_up(first, second, w, name, notes, heads, slot) {
             if (i as usize) < names {
                 return Known::At(i);

@@ -12,7 +12,7 @@ ghost use lib.ListN.{length};
 ghost use Rattle.event.specs.Words.{listForms};
 ghost use Rattle.writer_spec.specs.Writer.{sizesBad, stateBad, rowsIn};
 ghost use Rattle.writer.specs.Answers.{lentOf, stateOf, formsBy, faultOf};
-ghost use Rattle.names.specs.Slots.{Fresh};
+ghost use Rattle.slots.specs.Slots.{Fresh};
 ghost use Rattle.pool_index.specs.Index.{MaybeIndexed};
 ghost use Rattle.writer.specs.Passes.{Slots, callFault, Tried, TriedBy, WrittenBy};
 

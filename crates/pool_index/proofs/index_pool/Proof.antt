@@ -2,8 +2,8 @@ use native.Mathlib.Omega.{arith}
 use mathlib.Core.Path.{_≡_, refl, _∙_}
 use Prim.Native.Nat.{_+_, _-_, _≤_}
 use lib.ListN.{length, length-set}
-use Rattle.names.specs.Slots.{Fresh}
-use Rattle.names.specs.Laws.{slot-below}
+use Rattle.slots.specs.Slots.{Fresh}
+use Rattle.slots.specs.Laws.{slot-below}
 use Rattle.pool_index.specs.Index.{pairName, Chained}
 use Rattle.pool_index.proofs.Indexing.{chained-none, chained-more, indexed}
 use Rattle.pool_index.proofs.index_pool.Statement.{statement}

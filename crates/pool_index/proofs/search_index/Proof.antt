@@ -3,7 +3,7 @@ use mathlib.Core.Path.{_≡_, sym, _∙_}
 use Prim.Native.Nat.{_+_, _*_, _-_, _≤_}
 use lib.ListN.{getD}
 use borrow.Author.Needs.{needs}
-use Rattle.names.specs.Laws.{slot-below}
+use Rattle.slots.specs.Laws.{slot-below}
 use Rattle.pool_index.specs.Index.{Indexed}
 use Rattle.pool_index.proofs.Indexing.{Seeking, seek-begins, seek-goes-on, seek-falls, seek-found, seek-bad, seek-nowhere}
 use Rattle.pool_index.proofs.search_index.Statement.{statement}

@@ -3,7 +3,7 @@ use mathlib.Core.Path.{refl, sym, _∙_}
 use lib.ListN.{length}
 use lib.Seq.{length-take-le}
 use Rattle.event.specs.Row.{rowAt}
-use Rattle.names.specs.Laws.{slot-below}
+use Rattle.slots.specs.Laws.{slot-below}
 use Rattle.writer.proofs.Keeps.{name-is}
 use Rattle.writer.proofs.Measures.{says-row, says-noted, says-bare}
 use borrow.Author.Needs.{needs}

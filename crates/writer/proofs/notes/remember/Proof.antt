@@ -1,7 +1,7 @@
 use lib.ListN.{length}
 use Prim.Native.Nat.{_<_}
 use native.Mathlib.Omega.{arith}
-use Rattle.names.specs.Laws.{slot-by-below}
+use Rattle.slots.specs.Laws.{slot-by-below}
 use borrow.Author.Needs.{needs}
 use Rattle.writer.proofs.notes.remember.Statement.{statement}
 use Rattle.writer.proofs.notes.remember.Tie as tie

@@ -3,7 +3,7 @@ use mathlib.Core.Path.{sym, _∙_}
 use lib.ListN.{length}
 use Rattle.writer.specs.Notes.{LookSays}
 use Rattle.writer.specs.declared.notes.Look.the-variants as Look
-use Rattle.names.specs.Laws.{slot-below}
+use Rattle.slots.specs.Laws.{slot-below}
 use Rattle.writer.proofs.Noting.{name, told-bare, told-at, told-late, told-new}
 use borrow.Author.Needs.{needs}
 use Rattle.writer.proofs.put.known_name.Statement.{statement}

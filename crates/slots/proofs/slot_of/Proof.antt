@@ -1,7 +1,7 @@
-use Rattle.names.specs.Slots.{slotOf}
+use Rattle.slots.specs.Slots.{slotOf}
 use borrow.Author.Needs.{needs}
-use Rattle.names.proofs.slot_of.Statement.{statement}
-use Rattle.names.proofs.slot_of.Tie as tie
+use Rattle.slots.proofs.slot_of.Statement.{statement}
+use Rattle.slots.proofs.slot_of.Tie as tie
 
 hash-requires : tie.Need-hash-requires
 hash-requires c κs = search needs

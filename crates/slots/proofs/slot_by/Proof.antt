@@ -2,10 +2,10 @@ use mathlib.Core.Path.{refl}
 use Prim.Native.Nat.{ℕ, zero, suc, _*_, _%_, _<_}
 use native.Mathlib.Nat.{mod-lt, mul-lt-mul-of-pos-right}
 use native.Mathlib.Omega.{arith}
-use Rattle.names.specs.Slots.{slotBy}
+use Rattle.slots.specs.Slots.{slotBy}
 use borrow.Author.Needs.{needs}
-use Rattle.names.proofs.slot_by.Statement.{statement}
-use Rattle.names.proofs.slot_by.Tie as tie
+use Rattle.slots.proofs.slot_by.Statement.{statement}
+use Rattle.slots.proofs.slot_by.Tie as tie
 
 product-fits : (x slots : ℕ) → slots < 65536 → x % 4294967296 * slots < 18446744073709551616
 product-fits x zero k = omega arith
