@@ -1,2 +1,1 @@
-mod Searches
 mod Indexing

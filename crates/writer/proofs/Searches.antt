@@ -9,7 +9,7 @@ use Rattle.wire.specs.Refusal.{badState}
 use Rattle.writer_spec.specs.Encode.{find}
 use Rattle.writer_spec.specs.Faults.{stringFault}
 use Rattle.writer_spec.specs.Writer.{poolAt, meetsBad}
-use Rattle.pool_index.specs.Search.{searched}
+use Rattle.pool_search.specs.Search.{searched}
 use Rattle.writer.specs.Answers.{Place, placed, barred, placedBy}
 use Rattle.writer.specs.Passes.{nameRefusal}
 

@@ -5,7 +5,7 @@ use crate::notes::Look;
 use crate::sizes;
 use crate::sizes::Fault;
 use crate::sizes::Size;
-use pool_index::Found;
+use pool_search::Found;
 use wire::Command;
 use wire::Refusal;
 ghost use mathlib.Core.Path.{_≡_};
@@ -38,7 +38,7 @@ fn find_name(output: &[u8], pool: &[u32], kept: usize, name: &[u8], index: &[u16
 {
     match sizes::string_fault(name) {
         Fault::Refused(r) => NameFound::Refused(r),
-        Fault::Nothing => match pool_index::search(output, pool, kept, name, index) {
+        Fault::Nothing => match pool_search::search(output, pool, kept, name, index) {
             Found::At(i) => NameFound::At(i),
             Found::Nowhere => NameFound::Nowhere,
             Found::Bad => NameFound::Refused(Refusal::new(Refusal::BAD_STATE)),

@@ -1,6 +1,6 @@
 use mathlib.Core.Path.{sym, ap, _∙_}
 use Rattle.writer.specs.Answers.{faultOf}
-use Rattle.pool_index.specs.Search.{foundOf}
+use Rattle.pool_search.specs.Search.{foundOf}
 use Rattle.writer.proofs.Searches.{name-faulty, name-found, name-barred}
 use borrow.Author.Needs.{needs}
 use Rattle.writer.proofs.measure.find_name.Statement.{statement}

@@ -5,8 +5,8 @@ use lib.ListN.{length, take, drop, length-drop}
 use lib.Seq.{length-take-le}
 use Rattle.names.specs.Laws.{same-not}
 use borrow.Author.Needs.{needs}
-use Rattle.pool_index.proofs.spans_name.Statement.{statement}
-use Rattle.pool_index.proofs.spans_name.Tie as tie
+use Rattle.pool_search.proofs.spans_name.Statement.{statement}
+use Rattle.pool_search.proofs.spans_name.Tie as tie
 
 returns : tie.Need-returns
 returns c =

@@ -5,8 +5,8 @@ use mathlib.Core.List.{List}
 use Prim.Native.Nat.{ℕ}
 use Rattle.writer_spec.specs.Encode.{find}
 use Rattle.writer_spec.specs.Writer.{poolAt, meetsBad}
-use Rattle.pool_index.specs.declared.Found.{Found}
-use Rattle.pool_index.specs.declared.Found.the-variants as Found
+use Rattle.pool_search.specs.declared.Found.{Found}
+use Rattle.pool_search.specs.declared.Found.the-variants as Found
 
 -- the place of the first equal entry; nothing at all where the search is refused
 unfoldable pub searched : List ℕ → ℕ → List ℕ → List ℕ → Option (Option ℕ)

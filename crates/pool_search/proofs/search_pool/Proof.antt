@@ -1,10 +1,10 @@
 use native.Mathlib.Omega.{arith}
 use mathlib.Core.Path.{_≡_, sym, _∙_}
 use Prim.Native.Nat.{_+_, _*_, _-_, _≤_}
-use Rattle.pool_index.specs.Search.{searched}
-use Rattle.pool_index.proofs.Searches.{left, left-all, left-end, left-bad, left-found, left-other}
-use Rattle.pool_index.proofs.search_pool.Statement.{statement}
-use Rattle.pool_index.proofs.search_pool.Tie as tie
+use Rattle.pool_search.specs.Search.{searched}
+use Rattle.pool_search.proofs.Searches.{left, left-all, left-end, left-bad, left-found, left-other}
+use Rattle.pool_search.proofs.search_pool.Statement.{statement}
+use Rattle.pool_search.proofs.search_pool.Tie as tie
 
 abbrev Inv-loop : tie.InvT-loop
 Inv-loop output pool names name i₀ i = (i ≤ names) × (left output name pool names i ≡ searched output names pool name)

@@ -4,10 +4,10 @@ use Prim.Native.Nat.{_+_, _*_, _-_, _≤_}
 use lib.ListN.{getD}
 use borrow.Author.Needs.{needs}
 use Rattle.slots.specs.Laws.{slot-below}
 use Rattle.pool_index.specs.Index.{Indexed}
-use Rattle.pool_index.proofs.Indexing.{Seeking, seek-begins, seek-goes-on, seek-falls, seek-found, seek-bad, seek-nowhere}
-use Rattle.pool_index.proofs.search_index.Statement.{statement}
-use Rattle.pool_index.proofs.search_index.Tie as tie
+use Rattle.pool_search.proofs.Seeking.{Seeking, seek-begins, seek-goes-on, seek-falls, seek-found, seek-bad, seek-nowhere}
+use Rattle.pool_search.proofs.search_index.Statement.{statement}
+use Rattle.pool_search.proofs.search_index.Tie as tie
 
 abbrev Inv-loop : tie.InvT-loop
 Inv-loop output pool names name index next₀ next = (next ≤ 65535) × (Indexed output pool names index → Seeking output name pool names (getD index 16384 0) next)

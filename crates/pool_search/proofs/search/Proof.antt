@@ -1,8 +1,8 @@
 use native.Mathlib.Omega.{arith}
 use borrow.Author.Needs.{needs}
-use Rattle.pool_index.proofs.Searches.{left-none}
-use Rattle.pool_index.proofs.search.Statement.{statement}
-use Rattle.pool_index.proofs.search.Tie as tie
+use Rattle.pool_search.proofs.Searches.{left-none}
+use Rattle.pool_search.proofs.search.Statement.{statement}
+use Rattle.pool_search.proofs.search.Tie as tie
 
 returns : tie.Need-returns
 returns c = let a = c .before .before .before .before .before .args in

@@ -13,7 +13,7 @@ use Rattle.event.specs.Span.{part, same}
 use Rattle.grammar.specs.Choice.{byTest}
 use Rattle.writer_spec.specs.Encode.{find}
 use Rattle.writer_spec.specs.Writer.{poolAt, meetsBad}
-use Rattle.pool_index.specs.Search.{searched}
+use Rattle.pool_search.specs.Search.{searched}
 
 -- a place found after so many pairs
 abbrev pub after : ℕ → Option (Option ℕ) → Option (Option ℕ)

@@ -1,0 +1,2 @@
+mod Searches
+mod Seeking
