@@ -77,13 +77,6 @@ pub getD-sets : (l : List ℕ) (i : ℕ) (vs : List ℕ) (j d : ℕ) → j < i �
 getD-sets l i [] j d h = refl
 getD-sets l i (v ∷ vs) j d h = getD-sets (set l i v) (suc i) vs j d (omega arith) ∙ getD-set-other l i j v d (λ e. omega arith)
 
-pub sound-sets : (names stored : ℕ) (table : List ℕ) (i : ℕ) (vs : List ℕ) → 2 * names ≤ i → sound names (sets table i vs) stored ≡ sound names table stored
-unfolding sound
-sound-sets names stored table i vs h =
-    fun-ext (λ j. byTest (ltb j names)
-    (λ b. let k = ltb-true j names b in rw (b, getD-sets table i vs (2 * j) 0 (omega arith), getD-sets table i vs (2 * j + 1) 0 (omega arith)))
-    (λ b. rw b))
-
 -- where each pair ends in the store, every name is at hand
 pub sound-all : (names stored : ℕ) (table : List ℕ) → ((i : ℕ) → i < names → getD table (2 * i) 0 + getD table (2 * i + 1) 0 ≤ stored)
     → sound names table stored ≡ all

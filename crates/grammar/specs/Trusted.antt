@@ -16,7 +16,7 @@ use Rattle.event.specs.declared.Shape.{Shape}
 use Rattle.event.specs.declared.Shape.the-variants as Shape
 use Rattle.grammar.specs.Choice.{byTest}
 use Rattle.grammar.specs.Reader.{Reader, got, _>>=_, give, refuse}
-use Rattle.grammar.specs.Grammar.{Ref, new, known, Value, Item, Items, item, counted, after, byte, u16, string, name, shaped, value, attribute, first, event}
+use Rattle.grammar.specs.Grammar.{Ref, new, known, Value, Item, item, counted, after, byte, u16, string, name, shaped, value, attribute, first, event}
 use Rattle.grammar.specs.Binds.{bind-got, first-got}
 use Rattle.grammar.specs.Turn.{rest}
 use Rattle.grammar.specs.Attributes.{isAttribute, stands, turn-end, turn-row, own-tag, own-single, Ended, attribute-before, own-before}

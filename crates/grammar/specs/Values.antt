@@ -35,8 +35,3 @@ module _ (sound : ℕ → Bool) (names type : ℕ) (s : List ℕ) (at : ℕ) whe
   pub value-string : shape type ≡ Shape.String → Got (value sound names type s at) → Got (string s at)
   unfolding shaped
   value-string e g = first-got string (λ t. give (span t)) s at (record { it = g .it; place = g .place; is = sym (value-by Shape.String e) ∙ g .is })
-
-  pub value-name : shape type ≡ Shape.Interned → Got (value sound names type s at) → Got (name sound names s at)
-  unfolding shaped
-  value-name e g =
-      first-got (name sound names) (λ r. give (interned r)) s at (record { it = g .it; place = g .place; is = sym (value-by Shape.Interned e) ∙ g .is })

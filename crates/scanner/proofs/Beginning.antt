@@ -4,29 +4,27 @@ use mathlib.Core.List.{List, [], _∷_, _++_, append-nil}
 use mathlib.Core.Path.{_≡_, refl, sym, ap, _∙_}
 use Prim.Native.Nat.{ℕ, _+_, _*_, _≤_, _<_}
 use native.Mathlib.Omega.{arith}
-use borrow.Author.Tests.{eqb-true, eqb-false, eq-eqb, ne-eqb}
+use borrow.Author.Tests.{eqb-true, eqb-false, ne-eqb}
 use lib.Dec.{eqb}
 use lib.ListN.{length, getD, take, drop}
 use lib.Seq.{sets, sets-eq, drop-length}
 use Rattle.wire.specs.Token as Token
 use Rattle.grammar.specs.Choice.{byTest}
-use Rattle.grammar.specs.Grammar.{Span, Item, Items, item, whole, after, first, event}
-use Rattle.grammar.specs.Scan.{addsItem, adds, count, pairs, itemWords, words}
-use Rattle.grammar.specs.Laws.{ItemFits}
+use Rattle.grammar.specs.Grammar.{Item, Items, item, whole, after, first, event}
+use Rattle.grammar.specs.Scan.{addsItem, adds, count, itemWords, words}
 use Rattle.grammar.specs.Added.{after-adds}
 use Rattle.grammar.specs.Said.{item-length}
 use Rattle.grammar.specs.Binds.{Got}
 use Rattle.grammar.specs.Rows.{first-kind}
 use Rattle.grammar.specs.Turn.{rest}
-use Rattle.grammar.specs.Attributes.{Own, own-tag, own-single, own-row, own-before, Ended}
+use Rattle.grammar.specs.Attributes.{Own, own-tag, own-single, own-row, own-before}
 use Rattle.grammar.specs.Trusted.{always}
 use Rattle.scanner.specs.declared.fill.Home.{Home}
 use Rattle.scanner.specs.declared.fill.Kept.{Kept}
 use Rattle.scanner.specs.declared.fill.Ahead.{Ahead}
 use Rattle.scanner.specs.declared.fill.Begun.{Begun}
-use Rattle.scanner.specs.Fill.{Room, Keeps, Has, Once, Within, RowFilled, prepend, only, FitAll, Ready, ReadyAt, FilledRows, Walked, BegunRows, OneFilled, rowsFrom, inTag, leftAt, othersFrom, inPlace, keptBy}
+use Rattle.scanner.specs.Fill.{Room, Has, Once, Within, RowFilled, prepend, only, Ready, ReadyAt, FilledRows, Walked, BegunRows, OneFilled, rowsFrom, othersFrom, inPlace, keptBy}
 use Rattle.scanner.proofs.Filling.{it-has, once-it}
-use Rattle.scanner.proofs.Keeping.{keeps-words, keeps-bytes, keeps-both, room-then}
 use Rattle.scanner.proofs.Walking.{walked-none, walked-room, walked-names, walked-more, walked-long, walked-rows, walked-ready, walked-both, filled-walk}
 
 -- ---- the place is in a tag

@@ -4,12 +4,11 @@ use mathlib.Core.List.{List, [], _∷_, _++_, append-nil, append-assoc}
 use mathlib.Core.Path.{_≡_, refl, sym, ap, _∙_}
 use Prim.Native.Nat.{ℕ, _+_, _*_, _≤_, _<_}
 use native.Mathlib.Omega.{arith}
-use borrow.Author.Tests.{eqb-true, eqb-false, eq-eqb, ne-eqb}
+use borrow.Author.Tests.{eq-eqb, ne-eqb}
 use lib.Dec.{leb, eqb}
 use lib.ListN.{length, getD, length-append}
 use lib.Seq.{sets, length-sets}
 use Rattle.wire.specs.Token as Token
-use Rattle.wire.specs.Limits.{maxStore}
 use Rattle.grammar.specs.Choice.{byTest}
 use Rattle.grammar.specs.Grammar.{Span, Item, Items, item, whole, after, event}
 use Rattle.grammar.specs.Scan.{addsItem, adds, pairs, itemWords, count}

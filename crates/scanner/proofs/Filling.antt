@@ -1,25 +1,22 @@
 -- The second pass, field by field: what was read before, and the words that it makes.
-use mathlib.Core.Bool.{Bool, true, false, cond}
-use mathlib.Core.List.{List, [], _∷_, _++_}
-use mathlib.Core.Option.{Option, none, some}
-use mathlib.Core.Path.{_≡_, refl, sym, ap, _∙_}
+use mathlib.Core.Bool.{cond}
+use mathlib.Core.List.{List, [], _∷_}
+use mathlib.Core.Path.{_≡_, refl}
 use Prim.Native.Nat.{ℕ, _+_, _*_, _≤_, _<_}
 use native.Mathlib.Omega.{arith}
 use lib.ListN.{length, getD}
-use lib.Seq.{sets}
 use Rattle.wire.specs.Limits.{maxStore}
 use Rattle.wire.specs.Header.{u32At}
 use Rattle.wire.specs.Token.{internedNew}
 use Rattle.grammar.specs.Reader.{Read, got, short, refused, next}
-use Rattle.grammar.specs.Grammar.{Span, Ref, new, known, Value, u16, u32, u64, blob, string, name}
+use Rattle.grammar.specs.Grammar.{Span, Ref, new, known, Value, u16, u32, u64, blob, name}
 use Rattle.grammar.specs.Scan.{addsRef, addsValue, spanWords, refWords, valueWords}
 use Rattle.grammar.specs.Binds.{Got}
 use Rattle.grammar.specs.Values.{asText, asInterned, asWord, asPair}
 use Rattle.grammar.specs.Trusted.{always}
-use Rattle.grammar.specs.Again.{blob-two, blob-spans, string-blob, name-two, u32-four, u64-eight, new-two, new-spans, known-below, known-is}
+use Rattle.grammar.specs.Again.{blob-two, blob-spans, name-two, u32-four, u64-eight, new-two, new-spans, known-below, known-is}
 use Rattle.scanner.specs.declared.fill.Home.{Home}
 use Rattle.scanner.specs.declared.fill.Kept.{Kept}
-use Rattle.scanner.specs.declared.fill.Words.{Words}
 use Rattle.scanner.specs.declared.fill.Filled.{Filled}
 use Rattle.scanner.specs.Fill.{wordsOf, pooledIn, Room, Keeps, Has, Once, Within, SpanFilled, RefFilled, ValueFilled}
 use Rattle.scanner.proofs.Keeping.{keeps-none}

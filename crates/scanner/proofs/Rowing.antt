@@ -1,5 +1,4 @@
 -- The second pass, row by row: an attribute, and the event's own row.
-use mathlib.Core.Bool.{Bool, true, false}
 use mathlib.Core.List.{List, [], _∷_, _++_, append-nil}
 use mathlib.Core.Option.{Option, none, some}
 use mathlib.Core.Path.{_≡_, refl, sym, ap, _∙_}
@@ -11,16 +10,15 @@ use lib.ListN.{length, getD}
 use lib.Seq.{sets}
 use Rattle.wire.specs.Token as Token
 use Rattle.event.specs.declared.Shape.{Shape}
-use Rattle.grammar.specs.Reader.{Read, got, short, refused, next}
+use Rattle.grammar.specs.Reader.{Read, got, next}
 use Rattle.grammar.specs.Document.{typeOf}
-use Rattle.grammar.specs.Grammar.{Span, Ref, new, known, Value, Item, counted, countedName, countedValue, after, string, blob, name, value, attribute, first}
+use Rattle.grammar.specs.Grammar.{Span, Ref, new, known, Value, Item, counted, countedName, after, string, blob, name, value, attribute, first}
 use Rattle.grammar.specs.Scan.{addsRef, addsName, addsValue, addsItem, spanWords, refWords, nameWords, valueWords, itemWords}
 use Rattle.grammar.specs.Laws.{RefFits, NameFits, ValueFits, ItemFits, good-name}
 use Rattle.grammar.specs.Added.{addsRef-in, counted-adds, countedName-adds, countedValue-adds}
 use Rattle.grammar.specs.Stores.{getD-sets}
 use Rattle.grammar.specs.Binds.{Got}
 use Rattle.grammar.specs.Rows.{asAttribute, asTag, asTextRow, name-within, attribute-is, attribute-name, attribute-value, first-bare, first-tag, first-other, first-text, first-textless, text-string, tag-name}
-use Rattle.grammar.specs.Turn.{attribute-fits}
 use Rattle.grammar.specs.Again.{string-blob}
 use Rattle.grammar.specs.Choice.{byTest}
 use Rattle.grammar.specs.Trusted.{always}
@@ -29,7 +27,7 @@ use Rattle.scanner.specs.declared.fill.Kept.{Kept}
 use Rattle.scanner.specs.declared.fill.Filled.{Filled}
 use Rattle.scanner.specs.declared.fill.Ahead.{Ahead}
 use Rattle.scanner.specs.Fill.{wordsOf, pooledIn, keptPairs, Room, Keeps, Has, Once, Within, SpanFilled, RefFilled, ValueFilled, RowFilled}
-use Rattle.scanner.proofs.Keeping.{keeps-none, keeps-both, keeps-words, room-first, room-then}
+use Rattle.scanner.proofs.Keeping.{keeps-none, keeps-both, room-first, room-then}
 use Rattle.scanner.proofs.Filling.{has-got, has-it, it-has, once-got, once-it}
 
 -- ---- words that stay when names join the table after those that they look up

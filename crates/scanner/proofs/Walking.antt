@@ -1,13 +1,11 @@
 -- The second pass over an event: rows one after another, and what is left after each.
-use mathlib.Core.Bool.{Bool, true, false}
+use mathlib.Core.Bool.{true, false}
 use mathlib.Core.List.{List, [], _∷_, _++_, append-nil, append-assoc}
 use mathlib.Core.Path.{_≡_, refl, sym, ap, _∙_}
-use Prim.Native.Nat.{ℕ, suc, _+_, _*_, _≤_, _<_}
+use Prim.Native.Nat.{ℕ, _+_, _*_, _≤_, _<_}
 use native.Mathlib.Omega.{arith}
-use lib.Dec.{leb}
 use lib.ListN.{length, length-append}
 use lib.Seq.{sets, length-sets}
-use Rattle.grammar.specs.Reader.{got}
 use Rattle.grammar.specs.Grammar.{Span, Item, Items, item, whole, after, attribute}
 use Rattle.grammar.specs.Scan.{addsItem, adds, count, itemWords, words}
 use Rattle.grammar.specs.Laws.{ItemFits}
@@ -21,8 +19,8 @@ use Rattle.grammar.specs.Trusted.{always}
 use Rattle.scanner.specs.declared.fill.Home.{Home}
 use Rattle.scanner.specs.declared.fill.Kept.{Kept}
 use Rattle.scanner.specs.declared.fill.Ahead.{Ahead}
-use Rattle.scanner.specs.Fill.{pooledIn, keptPairs, Room, Keeps, Has, Once, Within, RowFilled, prepend, only, FitAll, Ready, FilledRows, Walked}
-use Rattle.scanner.proofs.Keeping.{keeps-none, keeps-both, keeps-words, keeps-bytes, room-first, room-then}
+use Rattle.scanner.specs.Fill.{pooledIn, keptPairs, Room, Has, Once, Within, RowFilled, prepend, only, FitAll, Ready, FilledRows, Walked}
+use Rattle.scanner.proofs.Keeping.{keeps-none, keeps-both, room-first, room-then}
 use Rattle.scanner.proofs.Filling.{it-has, once-it}
 use Rattle.scanner.proofs.Rowing.{item-later}
 

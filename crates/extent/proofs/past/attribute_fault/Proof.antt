@@ -7,7 +7,7 @@ use Rattle.grammar.specs.Scan.{sound, outcome}
 use Rattle.grammar.specs.Rows.{type-is, type-small, name-within, attribute-short, attribute-refused}
 use Rattle.extent.specs.Answers.{nameOf, poolGrown}
 use Rattle.extent.specs.Past.{ends}
-use Rattle.extent.proofs.Passing.{unread-as, value-unread, value-ends}
+use Rattle.extent.proofs.Passing.{value-unread, value-ends}
 use borrow.Author.Needs.{needs}
 use Rattle.extent.proofs.past.attribute_fault.Statement.{statement}
 use Rattle.extent.proofs.past.attribute_fault.Tie as tie

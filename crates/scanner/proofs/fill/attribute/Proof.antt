@@ -1,6 +1,5 @@
 use native.Mathlib.Omega.{arith}
 use mathlib.Core.Path.{refl}
-use lib.ListN.{getD}
 use Rattle.wire.specs.Token as Token
 use Rattle.scanner.proofs.Rowing.{name-asks, value-within, value-asks, row-filled}
 use borrow.Author.Needs.{needs}

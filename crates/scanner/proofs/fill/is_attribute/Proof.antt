@@ -1,4 +1,4 @@
-use mathlib.Core.Path.{refl, sym}
+use mathlib.Core.Path.{refl}
 use Rattle.wire.specs.Token as Token
 use Rattle.grammar.specs.Attributes.{is-attribute, is-other}
 use borrow.Author.Needs.{needs}

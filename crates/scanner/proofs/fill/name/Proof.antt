@@ -1,5 +1,5 @@
 use native.Mathlib.Omega.{arith}
-use mathlib.Core.Path.{refl, _∙_}
+use mathlib.Core.Path.{refl}
 use Rattle.scanner.proofs.Filling.{name-begins, new-begins, new-asks, new-filled, known-room, known-filled}
 use borrow.Author.Needs.{needs}
 use Rattle.scanner.proofs.fill.name.Statement.{statement}

@@ -1,4 +1,3 @@
-use native.Mathlib.Omega.{arith}
 use mathlib.Core.Path.{refl}
 use Rattle.scanner.proofs.Filling.{span-begins, span-stored, span-filled}
 use borrow.Author.Needs.{needs}

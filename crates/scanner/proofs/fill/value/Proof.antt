@@ -3,7 +3,7 @@ use mathlib.Core.List.{[], _∷_}
 use mathlib.Core.Path.{refl, sym, ap, _∙_}
 use Rattle.event.specs.declared.Shape.the-variants as Shape
 use Rattle.grammar.specs.Grammar.{Value, u32, u64, blob, string, name, shaped}
-use Rattle.grammar.specs.Scan.{addsRef, addsValue}
+use Rattle.grammar.specs.Scan.{addsValue}
 use Rattle.grammar.specs.Values.{asText, value-by}
 use Rattle.grammar.specs.Again.{string-blob, u32-four, u64-eight}
 use Rattle.grammar.specs.Trusted.{always}
