@@ -7,8 +7,8 @@ use native.Mathlib.Numerals.{add-one}
 use native.Mathlib.Omega.{arith}
 use borrow.Author.Tests.{lt-ltb, le-ltb, ltb-false, eq-eqb, ne-eqb}
 use lib.Dec.{ltb, leb, eqb}
-use lib.ListN.{length, take, drop, getD, set, replicate, length-replicate, length-append, length-drop, drop-of-length-le}
-use lib.Seq.{sets, take-all, take-nil, drop-nil, take-suc, drop-cons, sets-eq, length-sets, length-take-le, take-at, drop-at}
+use lib.ListN.{length, take, drop, getD, set, replicate, length-replicate, length-append, length-drop}
+use lib.Seq.{sets, take-all, take-nil, drop-nil, take-suc, sets-eq, length-sets, length-take-le, take-at, drop-at}
 use Rattle.wire.specs.Token as Token
 use Rattle.wire.specs.Refusal.{rowsFull, poolFull, badSize, badState}
 use Rattle.wire.specs.declared.Refusal.{Refusal}
@@ -75,29 +75,13 @@ module _ (document name : List ℕ) where
 
 -- ---- words that are stored
 
--- a row is its eight words
-pub eight : (w : Words) → length w ≡ 8 → getD w 0 0 ∷ getD w 1 0 ∷ getD w 2 0 ∷ getD w 3 0 ∷ getD w 4 0 ∷ getD w 5 0 ∷ getD w 6 0 ∷ getD w 7 0 ∷ [] ≡ w
-eight w l =
-    rw (
-      ← drop-of-length-le w {i = 8} (omega arith),
-      ← drop-cons w 7 0 (omega arith),
-      ← drop-cons w 6 0 (omega arith),
-      ← drop-cons w 5 0 (omega arith),
-      ← drop-cons w 4 0 (omega arith),
-      ← drop-cons w 3 0 (omega arith),
-      ← drop-cons w 2 0 (omega arith),
-      ← drop-cons w 1 0 (omega arith),
-    )
-    (sym (drop-cons w 0 0 (omega arith)))
-
 -- one word more
-pub words-turn : (words rows : List ℕ) (n i : ℕ) (now : List ℕ) → n ≤ length words → i < n → now ≡ sets rows 0 (take i words)
-    → set now i (getD words i 0) ≡ sets rows 0 (take (i + 1) words)
-words-turn words rows n i now h k e =
+pub words-turn : (words rows : List ℕ) (at n i : ℕ) (now : List ℕ) → n ≤ length words → i < n → now ≡ sets rows at (take i words)
+    → set now (at + i) (getD words i 0) ≡ sets rows at (take (i + 1) words)
+words-turn words rows at n i now h k e =
     let l : length (take i words) ≡ i = length-take-le i words (omega arith) in
-    let z : 0 + i ≡ i = omega arith in
     let t : take (i + 1) words ≡ take i words ++ (getD words i 0 ∷ []) = rw add-one (take-suc words i 0 (omega arith)) in
-    rw (e, t, sets-append rows 0 (take i words) (getD words i 0 ∷ []), l, z)
+    rw (e, t, sets-append rows at (take i words) (getD words i 0 ∷ []), l)
 
 -- the row alone, where it is taken
 pub chose-first : (write : Bool) (to : ℕ) (w rows rows₁ : List ℕ) → rows₁ ≡ cond write (sets rows to w) rows → Chose write to (w ∷ []) rows rows₁ 1

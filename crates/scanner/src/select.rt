@@ -105,20 +105,26 @@ fn takes_one(query: Query) -> bool
 
 // ---- rows that are taken are counted, and stored where they are to be written
 
+// The first n words of one slice, in another from a place on.
+fn put_words(to: &mut [u32], at: usize, words: &[u32], n: usize)
+    requires { ⌜ n ≤ length (now words) ⌝ }
+    requires { ⌜ at + n ≤ length (now to) ⌝ }
+    ensures { λ _. ⌜ now (to .exit) ≡ sets (now (to .entry)) at (take n (now (words .entry))) ⌝ }
+{
+    let mut i = 0;
+    while i < n {
+        to[at + i] = words[i];
+        i += 1;
+    }
+}
+
 fn put_taken(write: bool, rows: &mut [u32], to: usize, row: &[u32])
     requires { ⌜ (write ≡ true → to + 8 ≤ length (now rows)) ⌝ }
     requires { ⌜ length (now row) ≡ 8 ⌝ }
     ensures { λ _. ⌜ now (rows .exit) ≡ cond write (sets (now (rows .entry)) to (now (row .entry))) (now (rows .entry)) ⌝ }
 {
     if write {
-        rows[to] = row[0];
-        rows[to + 1] = row[1];
-        rows[to + 2] = row[2];
-        rows[to + 3] = row[3];
-        rows[to + 4] = row[4];
-        rows[to + 5] = row[5];
-        rows[to + 6] = row[6];
-        rows[to + 7] = row[7];
+        put_words(rows, to, row, 8);
     }
 }
 
@@ -285,19 +291,6 @@ pub struct Extent {
     pub len: usize,
 }
 
-// The first n words of one slice to the front of another.
-fn put_words(to: &mut [u32], words: &[u32], n: usize)
-    requires { ⌜ n ≤ length (now words) ⌝ }
-    requires { ⌜ n ≤ length (now to) ⌝ }
-    ensures { λ _. ⌜ now (to .exit) ≡ sets (now (to .entry)) 0 (take n (now (words .entry))) ⌝ }
-{
-    let mut i = 0;
-    while i < n {
-        to[i] = words[i];
-        i += 1;
-    }
-}
-
 // How many rows are taken, by a table that has room for the event's new names.
 fn count_by(
     query: Query,
@@ -349,7 +342,7 @@ fn count_aside(
     requires { ⌜ WholeAt (now document) at names (now table) extent ⌝ }
     ensures { λ r. ⌜ r ≡ length (askedAt query (now (element .entry)) (now (name .entry)) (now (document .entry)) at names (now (table .entry))) ⌝ }
 {
-    put_words(own, table, 2 * names);
+    put_words(own, 0, table, 2 * names);
     count_by(query, element, name, document, at, names, own, false)
 }
 

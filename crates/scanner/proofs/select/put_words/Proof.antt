@@ -1,3 +1,5 @@
+use Rattle.scanner.proofs.select.put_words.Statement.{statement}
+use Rattle.scanner.proofs.select.put_words.Tie as tie
 use native.Mathlib.Omega.{arith}
 use Prim.Native.Nat.{ℕ, _-_, _≤_}
 use mathlib.Core.Path.{_≡_, refl, ap, _∙_}
@@ -5,14 +7,12 @@ use lib.ListN.{length, take, length-set}
 use lib.Seq.{sets}
 use Rattle.scanner.proofs.Picking.{words-turn}
 use borrow.Author.Needs.{needs}
-use Rattle.scanner.proofs.select.put_words.Statement.{statement}
-use Rattle.scanner.proofs.select.put_words.Tie as tie
 
 abbrev Inv-loop : tie.InvT-loop
-Inv-loop to₀ words n i₀ to i = (i ≤ n) × (length to ≡ length to₀) × (to ≡ sets to₀ 0 (take i words))
+Inv-loop to₀ at words n i₀ to i = (i ≤ n) × (length to ≡ length to₀) × (to ≡ sets to₀ at (take i words))
 
 abbrev μ-loop : tie.MeasureT-loop
-μ-loop to₀ words n i₀ to i = n - i
+μ-loop to₀ at words n i₀ to i = n - i
 
 loop-holds : tie.Need-loop-holds Inv-loop μ-loop
 loop-holds c = (omega arith, refl, refl)
@@ -22,6 +22,9 @@ mul-to c = search needs
 
 shared-slice-read-to : tie.Need-shared-slice-read-to Inv-loop μ-loop
 shared-slice-read-to c = search needs
+
+add-to : tie.Need-add-to Inv-loop μ-loop
+add-to c = omega (arith, (c .before .before .before .pre) .1, c .before .before .before .good)
 
 mul-to-2 : tie.Need-mul-to-2 Inv-loop μ-loop
 mul-to-2 c = search needs
@@ -40,7 +43,7 @@ loop-again c =
     let l = c .before .before .loop in
     let a = c .before .before .before .args in
     let p = c .before .before .before .pre in
-    (omega arith, simp length-set (l .inv .1), words-turn (a .words .now) (a .to .now) (a .n) (l .i) (l .to) (p .0) (omega arith) (l .inv .2))
+    (omega arith, simp length-set (l .inv .1), words-turn (a .words .now) (a .to .now) (a .at) (a .n) (l .i) (l .to) (p .0) (omega arith) (l .inv .2))
 
 same-length : tie.Need-same-length Inv-loop μ-loop
 same-length c = c .before .loop .inv .1
@@ -50,7 +53,7 @@ returns c =
     let l = c .before .loop in
     let a = c .before .before .args in
     let e : l .i ≡ a .n = omega (arith, l .inv .0) in
-    l .inv .2 ∙ ap (λ (n : ℕ). sets (a .to .now) 0 (take n (a .words .now))) e
+    l .inv .2 ∙ ap (λ (n : ℕ). sets (a .to .now) (a .at) (take n (a .words .now))) e
 
 pub put-words-spec : {M : Type 1} → statement M
 put-words-spec =
@@ -61,6 +64,7 @@ put-words-spec =
     loop-holds
     mul-to
     shared-slice-read-to
+    add-to
     mul-to-2
     slice-write-to
     add-i
