@@ -13,7 +13,7 @@ use lib.Seq.{drop-drop, getD-drop}
 use Rattle.wire.specs.Token.{startTag, endTag}
 use Rattle.event.specs.Span.{span, same}
 use Rattle.event.specs.Row.{hasName, rowAt, rowsAt}
-use Rattle.nesting_spec.specs.Nesting.{Name, depth, Tag, start, end, other, tagOf, nested, document}
+use Rattle.nesting.specs.Nesting.{Name, depth, Tag, start, end, other, tagOf, nested, document}
 use Rattle.nesting.specs.Reading.{nameAt, tagsFrom, Passes, Breaks, ContentsTo, ElementTo}
 
 module _ (first second rows : List ℕ) where

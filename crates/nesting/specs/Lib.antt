@@ -1,2 +1,4 @@
-pub mod Answers
+pub mod Nesting
 pub mod Reading
+pub mod Laws
+pub mod Runs

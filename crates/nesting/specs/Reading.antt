@@ -7,7 +7,7 @@ use lib.ListN.{length, getD, drop}
 use Rattle.wire.specs.Token.{endTag}
 use Rattle.event.specs.Span.{span, same}
 use Rattle.event.specs.Row.{rowsAt}
-use Rattle.nesting_spec.specs.Nesting.{Name, Tag, tagOf, nested}
+use Rattle.nesting.specs.Nesting.{Name, Tag, tagOf, nested}
 use Rattle.nesting.specs.declared.Step.{Step}
 use Rattle.nesting.specs.declared.Step.the-variants as Step
 

@@ -6,8 +6,7 @@ ghost use Prim.Native.Nat.{_+_, _*_, _/_, _≤_, _<_};
 ghost use lib.ListN.{length, getD};
 ghost use Rattle.wire.specs.Token.{startTag};
 ghost use Rattle.event.specs.Row.{rowsAt};
-ghost use Rattle.nesting_spec.specs.Nesting.{depth, document, nesting};
-ghost use Rattle.nesting.specs.Answers.{nestingOf};
+ghost use Rattle.nesting.specs.Nesting.{depth, document, nesting, nestingOf};
 ghost use Rattle.nesting.specs.Reading.{nameAt, sameNames, ContentsMeet, ElementMeets};
 
 // Whether an event list nests.

@@ -6,8 +6,8 @@ use Rattle.wire.specs.Token.{startDocument, endDocument, startTag, endTag, text
 use Rattle.event.specs.Span as Span
 use Rattle.event.specs.Row as Row
 use Rattle.event.specs.Words as Words
-use Rattle.nesting_spec.specs.Nesting as N
-use Rattle.nesting_spec.specs.Nesting.{Answer, yes, no, refused}
+use Rattle.nesting.specs.Nesting as N
+use Rattle.nesting.specs.Nesting.{Answer, yes, no, refused}
 
 -- the names p and q; p again, in the second store
 abbrev first : List ℕ

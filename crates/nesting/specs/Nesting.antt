@@ -9,6 +9,8 @@ use Rattle.wire.specs.Token.{startTag, endTag}
 use Rattle.event.specs.Span.{same}
 use Rattle.event.specs.Row.{Row, rowsAt}
 use Rattle.event.specs.Words.{listForms}
+use Rattle.nesting.specs.declared.Nesting.{Nesting}
+use Rattle.nesting.specs.declared.Nesting.the-variants as Nesting
 
 abbrev pub Name : Type 0
 Name = List ℕ
@@ -50,3 +52,9 @@ pub data Answer : Type 0 where
 unfoldable pub nesting : List ℕ → List ℕ → List ℕ → Answer
 nesting first second w =
     cond (listForms first second w) (cond (document (rowsAt first second (length w / 8) w)) yes no) (refused notRows 0)
+
+-- what the code's answer says
+abbrev pub nestingOf : Nesting → Answer
+nestingOf Nesting.Yes = yes
+nestingOf Nesting.No = no
+nestingOf (Nesting.Refused r) = refused (r .number) (r .detail)

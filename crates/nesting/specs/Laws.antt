@@ -10,7 +10,7 @@ use lib.ListN.{length}
 use Rattle.event.specs.Row.{Row}
 use Rattle.event.specs.Span.{same}
 use Rattle.event.specs.Laws.{both, same-refl, same-eq}
-use Rattle.nesting_spec.specs.Nesting.{Name, depth, Tag, start, end, other, tagOf, nested, document}
+use Rattle.nesting.specs.Nesting.{Name, depth, Tag, start, end, other, tagOf, nested, document}
 
 -- rows in which elements stand at most so many levels deep
 mutual
