@@ -4,6 +4,5 @@ mod Rowing
 mod Walking
 mod Beginning
 mod Stepping
-mod Quickly
 mod Picking
 mod Choosing

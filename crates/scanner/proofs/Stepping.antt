@@ -1,14 +1,14 @@
 -- The two passes, by how the first ended.
-use mathlib.Core.Bool.{Bool, true, false, _&&_, cond, true≢false}
+use mathlib.Core.Bool.{Bool, true, false, _&&_, cond}
 use mathlib.Core.List.{List, [], _++_, append-nil}
 use mathlib.Core.Path.{_≡_, refl, sym, ap, _∙_}
 use Prim.Native.Nat.{ℕ, zero, suc, _+_, _*_, _-_, _/_, _≤_, _<_}
 use native.Mathlib.Omega.{arith}
-use borrow.Author.Tests.{lt-ltb, le-ltb, ltb-false}
+use borrow.Author.Tests.{lt-ltb, le-ltb}
 use lib.Dec.{ltb}
 use lib.ListN.{length}
 use Rattle.wire.specs.Limits.{maxStore}
-use Rattle.wire.specs.Refusal.{rowsFull, poolFull, namesFull, badSize, badState}
+use Rattle.wire.specs.Refusal.{rowsFull, poolFull, namesFull}
 use Rattle.grammar.specs.Choice.{byTest}
 use Rattle.grammar.specs.Grammar.{Span, Items, item, whole, lacks, stops, event}
 use Rattle.grammar.specs.Scan.{sound, adds, lengths, count, words, complete, incomplete, bad, outcome, Measure, measure}
@@ -19,7 +19,9 @@ use Rattle.scanner.specs.declared.fill.Home.{Home}
 use Rattle.scanner.specs.declared.fill.Kept.{Kept}
 use Rattle.scanner.specs.declared.fill.Ahead.{Ahead}
 use Rattle.scanner.specs.Fill.{pooledIn, only, Ready, FilledRows}
-use Rattle.scanner.specs.Step.{Reply, gives, needMore, refused, Left, written, handOut, byOutcome, Placed, readBy, tooLong, outside, step}
+use Rattle.quick_step.specs.Step.{Reply, gives, needMore, refused, Left, written, handOut, byOutcome, refusedFirst, step}
+use Rattle.quick_step.specs.Laws.{not-long, not-outside, not-refused}
+use Rattle.scanner.specs.Step.{Placed, readBy}
 use Rattle.scanner.proofs.Walking.{prepend-count, prepend-adds, prepend-words}
 
 -- ---- what no row has
@@ -69,7 +71,7 @@ module _ (h : Home) (s : List ℕ) (k : Kept) (all : Items) (table table₁ stor
 
 -- ---- the two passes
 
-module _ (finished copied : Bool) (base names used : ℕ) (s table store rows : List ℕ) (r : Placed base copied names used s table store) where
+module _ (finished copied : Bool) (base names used stored : ℕ) (s table store rows : List ℕ) (r : Placed base copied names used stored s table store) where
   abbrev is : Items
   is = event (sound names table (cond copied (length store) (base + length s))) names s
 
@@ -89,10 +91,10 @@ module _ (finished copied : Bool) (base names used : ℕ) (s table store rows : 
   kept = record { names = names; used = used }
 
   -- what the first pass measured
-  module _ (m : Measure) (stored : ℕ) (q : stored ≡ cond copied (length store) (base + length s)) (d : m ≡ measured finished names stored table s) where
+  module _ (m : Measure) (d : m ≡ measured finished names stored table s) where
     e : m ≡ measure finished names is
     unfolding measured
-    e = d ∙ rw (le-ltb maxStore (length s) (omega (arith, r .in-store)), le-ltb (length table) (2 * names) (r .names-fit), q)
+    e = d ∙ rw (le-ltb maxStore (length s) (omega (arith, r .in-store)), le-ltb (length table) (2 * names) (r .names-fit), r .stored-is)
 
     pub rows-are : m .rows ≡ count is
     unfolding measure
@@ -184,75 +186,17 @@ module _ (finished copied : Bool) (base names used : ℕ) (s table store rows : 
                 let w = words-all home s kept is table table₁ store store₁ rows rows₁ 0 others a y row-room in
                 rw (ended, enough, pairs-enough, bytes-enough, rows-are, added-are, bytes-are, y .stored, w, y .keeps .store-is, y .keeps .table-is, x)
 
--- ---- 17 and 19
+-- ---- after 17 and 19
 
-module _ (base len : ℕ) (copied : Bool) (store : ℕ) where
-  pub long-base : maxStore < base → true ≡ tooLong base len copied store
-  unfolding tooLong
-  long-base h = rw (lt-ltb maxStore (base + len) (omega arith))
+module _ (s : List ℕ) (base : ℕ) (finished copied : Bool) (names used : ℕ) (table store rows : List ℕ)
+    (f : refusedFirst base (length s) copied (length store) (length table) names used ≡ 0) where
+  pub step-placed : (stored : ℕ) → stored ≡ cond copied (length store) (base + length s) → Placed base copied names used stored s table store
+  step-placed stored e =
+      let n = not-refused base (length s) copied (length store) (length table) names used f in
+      let a = not-long base (length s) copied (length store) (n .0) in
+      let b = not-outside (length table) names copied used (length store) (n .1) in
+      record { in-store = a .0; names-fit = b .0; used-fit = λ c. (b .1 c, a .1 c); stored-is = e }
 
-  pub long-input : base ≤ maxStore → maxStore - base < len → true ≡ tooLong base len copied store
-  unfolding tooLong
-  long-input g h = rw (lt-ltb maxStore (base + len) (omega arith))
-
-  module _ (g : base ≤ maxStore) (h : len ≤ maxStore - base) where
-    pub long-store : copied ≡ true → ltb maxStore store ≡ tooLong base len copied store
-    unfolding tooLong
-    long-store c = rw (le-ltb maxStore (base + len) (omega arith), c)
-
-    pub long-none : copied ≡ false → false ≡ tooLong base len copied store
-    unfolding tooLong
-    long-none c = rw (le-ltb maxStore (base + len) (omega arith), c)
-
-  pub not-long : tooLong base len copied store ≡ false → (base + len ≤ maxStore) × (copied ≡ true → store ≤ maxStore)
-  unfolding tooLong
-  not-long e =
-      byTest (ltb maxStore (base + len)) (λ a. absurd (true≢false (rw a at e)))
-      (λ a. (ltb-false maxStore (base + len) a, λ c. ltb-false maxStore store (rw (a, c) at e)))
-
-module _ (words names : ℕ) (copied : Bool) (used store : ℕ) where
-  pub outside-table : words / 2 < names → true ≡ outside words names copied used store
-  unfolding outside
-  outside-table h = rw (lt-ltb words (2 * names) (omega arith))
-
-  module _ (h : names ≤ words / 2) where
-    pub outside-store : copied ≡ true → ltb store used ≡ outside words names copied used store
-    unfolding outside
-    outside-store c = rw (le-ltb words (2 * names) (omega arith), c)
-
-    pub outside-none : copied ≡ false → false ≡ outside words names copied used store
-    unfolding outside
-    outside-none c = rw (le-ltb words (2 * names) (omega arith), c)
-
-  pub not-outside : outside words names copied used store ≡ false → (2 * names ≤ words) × (copied ≡ true → used ≤ store)
-  unfolding outside
-  not-outside e =
-      byTest (ltb words (2 * names)) (λ a. absurd (true≢false (rw a at e)))
-      (λ a. (ltb-false words (2 * names) a, λ c. ltb-false store used (rw (a, c) at e)))
-
-module _ (s : List ℕ) (base : ℕ) (finished copied : Bool) (names used : ℕ) (table store rows : List ℕ) where
-  abbrev pub Stepped : Left
-  Stepped = step s base finished copied names used table store rows
-
-  abbrev as-it-was : Reply → Left
-  as-it-was q = record { reply = q; table = table; store = store; rows = rows }
-
-  pub step-long : (number detail : ℕ) → tooLong base (length s) copied (length store) ≡ true → number ≡ badSize → detail ≡ 0 → as-it-was (refused number detail) ≡ Stepped
-  unfolding step
-  step-long number detail e a b = rw (e, a, b)
-
-  module _ (e : tooLong base (length s) copied (length store) ≡ false) where
-    pub step-outside : (number detail : ℕ) → outside (length table) names copied used (length store) ≡ true → number ≡ badState → detail ≡ 0 → as-it-was (refused number detail) ≡ Stepped
-    unfolding step
-    step-outside number detail f a b = rw (e, f, a, b)
-
-    module _ (f : outside (length table) names copied used (length store) ≡ false) where
-      pub step-placed : Placed base copied names used s table store
-      step-placed =
-          let a = not-long base (length s) copied (length store) e in
-          let b = not-outside (length table) names copied used (length store) f in
-          record { in-store = a .0; names-fit = b .0; used-fit = λ c. (b .1 c, a .1 c) }
-
-      pub step-read : (x : Left) → x ≡ readBy finished copied base names used s table store rows → x ≡ Stepped
-      unfolding step readBy
-      step-read x k = k ∙ rw (e, f)
+  pub step-read : (x : Left) → x ≡ readBy finished copied base names used s table store rows → x ≡ step s base finished copied names used table store rows
+  unfolding step readBy
+  step-read x k = let n = not-refused base (length s) copied (length store) (length table) names used f in k ∙ rw (n .0, n .1)

@@ -13,8 +13,8 @@ use Rattle.grammar.specs.Laws.{agree-event}
 use Rattle.grammar.specs.Outcomes.{ends-within}
 use Rattle.grammar.specs.Scan.{sound, adds, count, Outcome, complete, incomplete, bad, outcome}
 use Rattle.grammar.specs.Choice.{byTest}
-use Rattle.scanner.specs.Step as Scanned
-use Rattle.scanner.specs.Step.{step, tooLong, outside, SteppedQuickly}
+use Rattle.quick_step.specs.Step as Scanned
+use Rattle.quick_step.specs.Step.{step, tooLong, outside, SteppedQuickly}
 use Rattle.quick.specs.declared.Taken.{Taken}
 use Rattle.slice_spec.specs.Slice.{Place, Left, Answer, gives, end, unchanged, sizesBad, placeBad, itemsAt, given, handOut, byOutcome, nextFrom, next, placeAfter, tableAfter}
 use Rattle.slice_spec.specs.Bounds.{Fits}

@@ -87,7 +87,16 @@ fn next_from(place: Place, document: &[u8], pool: &mut [u32], rows: &mut [u32]) 
 {
     let at = place.at;
     let names = place.names;
-    let taken = scanner::step_quickly(&document[at..], at, false, names, 0, pool, document, rows);
+    let taken = quick_step::step_quickly(
+        &document[at..],
+        at,
+        false,
+        names,
+        0,
+        pool,
+        document,
+        rows,
+    );
     if taken.len != 0 {
         return Next::Event {
             rows: taken.rows,

@@ -18,8 +18,9 @@ use Rattle.grammar.specs.Scan.{sound, adds, lengths, count, Outcome, complete, 
 use Rattle.grammar.specs.Choice.{byTest}
 use Rattle.scanner.specs.declared.Stepped.{Stepped}
 use Rattle.scanner.specs.declared.Stepped.the-variants as Stepped
-use Rattle.scanner.specs.Step as Scanned
-use Rattle.scanner.specs.Step.{step, stepOf}
+use Rattle.quick_step.specs.Step as Scanned
+use Rattle.quick_step.specs.Step.{step}
+use Rattle.scanner.specs.Step.{stepOf}
 use Rattle.stream_spec.specs.Stream.{Stream, Lent, Left, Reply, unchanged, passed, given, handOut, byOutcome, nextFrom}
 use Rattle.stream_spec.specs.Stream as Defined
 use Rattle.stream.specs.Answers.{Fits, Sums, later}

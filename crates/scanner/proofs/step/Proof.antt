@@ -2,7 +2,7 @@ use mathlib.Core.List.{List}
 use mathlib.Core.Path.{ap, _∙_}
 use Prim.Native.Nat.{ℕ}
 use native.Mathlib.Omega.{arith}
-use Rattle.scanner.specs.Step.{step}
+use Rattle.quick_step.specs.Step.{step}
 use borrow.Author.Needs.{needs}
 use Rattle.scanner.proofs.step.Statement.{statement}
 use Rattle.scanner.proofs.step.Tie as tie

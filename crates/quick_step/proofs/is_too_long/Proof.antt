@@ -1,6 +1,6 @@
-use Rattle.scanner.proofs.Stepping.{long-base, long-input, long-store, long-none}
-use Rattle.scanner.proofs.is_too_long.Statement.{statement}
-use Rattle.scanner.proofs.is_too_long.Tie as tie
+use Rattle.quick_step.proofs.Bounds.{long-base, long-input, long-store, long-none}
+use Rattle.quick_step.proofs.is_too_long.Statement.{statement}
+use Rattle.quick_step.proofs.is_too_long.Tie as tie
 
 returns : tie.Need-returns
 returns c = long-base (c .before .args .base) (c .before .args .len) (c .before .args .copied) (c .before .args .store) (c .if1 .taken)

@@ -12,8 +12,8 @@ use Rattle.grammar.specs.Grammar.{Span, Items, event}
 use Rattle.grammar.specs.Scan.{sound, adds, lengths, pairs, copiedPairs, joined, count, words, Outcome}
 use Rattle.quick.specs.declared.Taken.{Taken}
 use Rattle.quick.specs.Quick.{Quickly, declined, taken}
-use Rattle.scanner.specs.Step.{gives, Left, written, handOut, byOutcome, step, tooLong, outside, SteppedQuickly}
-use Rattle.scanner.proofs.Stepping.{not-outside}
+use Rattle.quick_step.specs.Step.{gives, Left, written, handOut, byOutcome, step, tooLong, outside, SteppedQuickly}
+use Rattle.quick_step.specs.Laws.{not-outside}
 
 module _ (s : List ℕ) (base : ℕ) (finished copied : Bool) (names used : ℕ) (table store rows rows₁ : List ℕ) (stored : ℕ) (t : Taken) where
   abbrev is : Items

@@ -1,6 +1,6 @@
-use Rattle.scanner.proofs.Stepping.{outside-table, outside-store, outside-none}
-use Rattle.scanner.proofs.is_outside.Statement.{statement}
-use Rattle.scanner.proofs.is_outside.Tie as tie
+use Rattle.quick_step.proofs.Bounds.{outside-table, outside-store, outside-none}
+use Rattle.quick_step.proofs.is_outside.Statement.{statement}
+use Rattle.quick_step.proofs.is_outside.Tie as tie
 
 returns : tie.Need-returns
 returns c = outside-table (c .before .args .words) (c .before .args .names) (c .before .args .copied) (c .before .args .used) (c .before .args .store) (c .if1 .taken)
