@@ -30,6 +30,7 @@ pub enum Outcome {
     Bad(Refusal),
 }
 
+// So many rows, new names, and bytes of these; and how the reading ended.
 pub struct Measured {
     pub rows: usize,
     pub added: usize,

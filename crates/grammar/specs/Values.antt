@@ -7,7 +7,7 @@ use Rattle.event.specs.Row.{shape}
 use Rattle.event.specs.declared.Shape.{Shape}
 use Rattle.event.specs.declared.Shape.the-variants as Shape
 use Rattle.grammar.specs.Reader.{Read, got, next, give}
-use Rattle.grammar.specs.Grammar.{Span, Ref, Value, span, interned, string, name, shaped, value}
+use Rattle.grammar.specs.Grammar.{Span, Ref, Value, span, interned, string, shaped, value}
 use Rattle.grammar.specs.Binds.{Got, first-got}
 
 -- ---- a value, as its field was read
@@ -31,7 +31,7 @@ module _ (sound : ℕ → Bool) (names type : ℕ) (s : List ℕ) (at : ℕ) whe
   unfolding value
   value-by h e = rw e
 
-  -- where the value was read, its string or its name was
+  -- where the value was read, its string was
   pub value-string : shape type ≡ Shape.String → Got (value sound names type s at) → Got (string s at)
   unfolding shaped
   value-string e g = first-got string (λ t. give (span t)) s at (record { it = g .it; place = g .place; is = sym (value-by Shape.String e) ∙ g .is })

@@ -51,8 +51,8 @@ pub struct Checked {
     pub stored: usize,
 }
 
-// For an input of so many bytes that lies in its store from base on, a name store of so many bytes, of which so many are used where names are
-// copied to it, and so many names in a table of so many words.
+// 17, then 19: for an input of so many bytes that lies in its store from base on, a name store of so many bytes, of which so many are used
+// where names are copied to it, and so many names in a table of so many words.
 pub fn check(
     base: usize,
     len: usize,

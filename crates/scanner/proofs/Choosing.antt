@@ -25,7 +25,7 @@ use Rattle.scanner.specs.declared.select.Query.{Query}
 use Rattle.scanner.specs.Fill.{ReadyAt, OneFilled, rowsFrom, othersFrom}
 use Rattle.scanner.specs.Select.{takesAll, takesOne, rowsOf, taken, chosen, grown, Room, Chose}
 use Rattle.scanner.proofs.Rowing.{item-later}
-use Rattle.scanner.proofs.Picking.{chose-none}
+use Rattle.scanner.proofs.Picking.{chose-none, none-stored}
 
 -- ---- a row that was read: the names that are left to keep, and its words by the table that has them all
 
@@ -82,13 +82,8 @@ module _ (base : ℕ) (s : List ℕ) (names : ℕ) (is : Items) (table table₁ 
   row-kind = ap (λ (w : Words). getD w 0 0) (o .row-is) ∙ sym (ap kindOf (o .all-is))
 
 -- a table that no name is added to
-pub none-grown : (base names : ℕ) (table : List ℕ) (is : Items) → length (adds names is) ≡ 0 → table ≡ grown base names table is
-unfolding pairs
-none-grown base names table is e = by (adds names is) e
-  where
-    by : (ts : List Span) → length ts ≡ 0 → table ≡ sets table (2 * names) (pairs base ts)
-    by [] z = refl
-    by (t ∷ ts) z = absurd (omega (arith, z))
+none-grown : (base names : ℕ) (table : List ℕ) (is : Items) → length (adds names is) ≡ 0 → table ≡ grown base names table is
+none-grown base names table is e = none-stored table (2 * names) base (adds names is) (sym e)
 
 pub grown-long : (base names : ℕ) (table : List ℕ) (is : Items) → length (grown base names table is) ≡ length table
 grown-long base names table is = length-sets table (2 * names) (pairs base (adds names is))

@@ -2,7 +2,7 @@
 use extent::Outcome;
 use wire::Command;
 use wire::Refusal;
-ghost use mathlib.Core.Bool.{true, false, _||_, _&&_, not, cond};
+ghost use mathlib.Core.Bool.{true, false, _||_, _&&_, cond};
 ghost use mathlib.Core.List.{[], _∷_};
 ghost use mathlib.Core.Path.{_≡_};
 ghost use Prim.Native.Nat.{ℕ, _+_, _*_, _/_, _≤_, _<_};
@@ -142,16 +142,6 @@ fn is_taken(looking: bool, all: bool, document: &[u8], row: &[u32], name: &[u8])
     false
 }
 
-// Whether nothing is left to do with an event: no row is looked for, and it adds no name.
-fn is_done(looking: bool, still: bool) -> bool
-    ensures { λ r. ⌜ r ≡ (not looking && still) ⌝ }
-{
-    if looking {
-        return false;
-    }
-    still
-}
-
 // The attributes from a place on: their new names are kept, and how many are taken. still says that there are no new names.
 fn take_rest(
     s: &[u8],
@@ -183,7 +173,8 @@ fn take_rest(
     let mut count = 0;
     let mut row = [0u32; 8];
     while crate::fill::is_attribute(s, at) {
-        if is_done(looking, still) {
+        // no row is looked for, and no name is left to keep
+        if !looking & still {
             return count;
         }
         let ahead = crate::fill::one(s, at, base, table, names, &mut row);
@@ -210,15 +201,6 @@ fn take_first(own: bool, write: bool, rows: &mut [u32], to: usize, row: &[u32]) 
         return 1;
     }
     0
-}
-
-fn both(a: bool, b: bool) -> bool
-    ensures { λ r. ⌜ r ≡ (a && b) ⌝ }
-{
-    if a {
-        return b;
-    }
-    false
 }
 
 // An event's kind, and how many of its rows are taken.
@@ -259,7 +241,7 @@ fn take_event(
     }
     let look = is_element(document, &row, element);
     let all = takes_all(query);
-    let first = take_first(both(look, all), write, rows, to, &row);
+    let first = take_first(look & all, write, rows, to, &row);
     let more = take_rest(
         s,
         ahead.next,

@@ -45,45 +45,42 @@ is-element-requires c κs =
 takes-all-requires : tie.Need-takes-all-requires
 takes-all-requires c κs = search needs
 
-both-requires : tie.Need-both-requires
-both-requires c κs = search needs
-
 slice-aggregate-take-first : tie.Need-slice-aggregate-take-first
 slice-aggregate-take-first c = search needs
 
 take-first-requires : tie.Need-take-first-requires
 take-first-requires c κs =
-    let a = c .before .before .before .before .before .before .before .before .before .before .before .before .before .before .before .before .before .before .before .before .args in
-    let p = c .before .before .before .before .before .before .before .before .before .before .before .before .before .before .before .before .before .before .before .before .pre in
-    (own-fits (a .base) (a .s .now) (a .names) (a .table .now) _ _ _ (p .0) (c .before .before .before .before .before .before .before .before .before .before .before .one .ensures) (c .before .before .before .before .before .before .if1 .left) (a .query) (a .document .now) (a .element .now) (a .name .now) _ _ _ _ (c .before .before .before .before .is-element .ensures) (c .before .before .before .takes-all .ensures) refl (c .before .before .both .ensures) (a .write) (a .to) (a .rows .now) (p .1 .1 .0), tag-eight (a .base) (a .s .now) (a .names) (a .table .now) _ _ _ (p .0) (c .before .before .before .before .before .before .before .before .before .before .before .one .ensures) (c .before .before .before .before .before .before .if1 .left))
+    let a = c .before .before .before .before .before .before .before .before .before .before .before .before .before .before .before .before .before .before .before .args in
+    let p = c .before .before .before .before .before .before .before .before .before .before .before .before .before .before .before .before .before .before .before .pre in
+    (own-fits (a .base) (a .s .now) (a .names) (a .table .now) _ _ _ (p .0) (c .before .before .before .before .before .before .before .before .before .before .one .ensures) (c .before .before .before .before .before .if1 .left) (a .query) (a .document .now) (a .element .now) (a .name .now) _ _ _ _ (c .before .before .before .is-element .ensures) (c .before .before .takes-all .ensures) refl refl (a .write) (a .to) (a .rows .now) (p .1 .1 .0), tag-eight (a .base) (a .s .now) (a .names) (a .table .now) _ _ _ (p .0) (c .before .before .before .before .before .before .before .before .before .before .one .ensures) (c .before .before .before .before .before .if1 .left))
 
 takes-one-requires : tie.Need-takes-one-requires
 takes-one-requires c κs = search needs
 
 mul-take-rest : tie.Need-mul-take-rest
 mul-take-rest c =
-    let a = c .before .before .before .before .before .before .before .before .before .before .before .before .before .before .before .before .before .before .before .before .before .before .before .before .before .before .args in
-    let p = c .before .before .before .before .before .before .before .before .before .before .before .before .before .before .before .before .before .before .before .before .before .before .before .before .before .before .pre in
-    omega (arith, own-few (a .base) (a .s .now) (a .names) (a .table .now) _ _ _ (p .0) (c .before .before .before .before .before .before .before .before .before .before .before .before .before .before .before .before .before .one .ensures) (c .before .before .before .before .before .before .before .before .before .before .before .before .if1 .left) (a .query) (a .document .now) (a .element .now) (a .name .now) _ _ _ _ (c .before .before .before .before .before .before .before .before .before .before .is-element .ensures) (c .before .before .before .before .before .before .before .before .before .takes-all .ensures) (c .before .takes-one .ensures) (c .before .before .before .before .before .before .before .before .both .ensures) (a .write) (a .to) (a .rows .now) (p .1 .1 .0) _ _ (c .before .before .before .before .before .take-first .ensures) (p .1 .1 .1))
+    let a = c .before .before .before .before .before .before .before .before .before .before .before .before .before .before .before .before .before .before .before .before .before .before .before .before .before .args in
+    let p = c .before .before .before .before .before .before .before .before .before .before .before .before .before .before .before .before .before .before .before .before .before .before .before .before .before .pre in
+    omega (arith, own-few (a .base) (a .s .now) (a .names) (a .table .now) _ _ _ (p .0) (c .before .before .before .before .before .before .before .before .before .before .before .before .before .before .before .before .one .ensures) (c .before .before .before .before .before .before .before .before .before .before .before .if1 .left) (a .query) (a .document .now) (a .element .now) (a .name .now) _ _ _ _ (c .before .before .before .before .before .before .before .before .before .is-element .ensures) (c .before .before .before .before .before .before .before .before .takes-all .ensures) (c .before .takes-one .ensures) refl (a .write) (a .to) (a .rows .now) (p .1 .1 .0) _ _ (c .before .before .before .before .before .take-first .ensures) (p .1 .1 .1))
 
 add-take-rest : tie.Need-add-take-rest
 add-take-rest c =
-    let a = c .before .before .before .before .before .before .before .before .before .before .before .before .before .before .before .before .before .before .before .before .before .before .before .before .before .before .args in
-    let p = c .before .before .before .before .before .before .before .before .before .before .before .before .before .before .before .before .before .before .before .before .before .before .before .before .before .before .pre in
-    omega (arith, others-from (a .base) (a .s .now) (a .names) (a .table .now) _ _ _ (p .0) (c .before .before .before .before .before .before .before .before .before .before .before .before .before .before .before .before .before .one .ensures) (c .before .before .before .before .before .before .before .before .before .before .before .before .if1 .left) (a .query) (a .document .now) (a .element .now) (a .name .now) _ _ _ _ (c .before .before .before .before .before .before .before .before .before .before .is-element .ensures) (c .before .before .before .before .before .before .before .before .before .takes-all .ensures) (c .before .takes-one .ensures) (c .before .before .before .before .before .before .before .before .both .ensures) (a .write) (a .to) (a .rows .now) (p .1 .1 .0) _ _ (c .before .before .before .before .before .take-first .ensures) (p .1 .1 .1))
+    let a = c .before .before .before .before .before .before .before .before .before .before .before .before .before .before .before .before .before .before .before .before .before .before .before .before .before .args in
+    let p = c .before .before .before .before .before .before .before .before .before .before .before .before .before .before .before .before .before .before .before .before .before .before .before .before .before .pre in
+    omega (arith, others-from (a .base) (a .s .now) (a .names) (a .table .now) _ _ _ (p .0) (c .before .before .before .before .before .before .before .before .before .before .before .before .before .before .before .before .one .ensures) (c .before .before .before .before .before .before .before .before .before .before .before .if1 .left) (a .query) (a .document .now) (a .element .now) (a .name .now) _ _ _ _ (c .before .before .before .before .before .before .before .before .before .is-element .ensures) (c .before .before .before .before .before .before .before .before .takes-all .ensures) (c .before .takes-one .ensures) refl (a .write) (a .to) (a .rows .now) (p .1 .1 .0) _ _ (c .before .before .before .before .before .take-first .ensures) (p .1 .1 .1))
 
 take-rest-requires : tie.Need-take-rest-requires
 take-rest-requires c κs =
-    let a = c .before .before .before .before .before .before .before .before .before .before .before .before .before .before .before .before .before .before .before .before .before .before .before .before .before .before .args in
-    let p = c .before .before .before .before .before .before .before .before .before .before .before .before .before .before .before .before .before .before .before .before .before .before .before .before .before .before .pre in
-    let t = tag-ready (a .base) (a .s .now) (a .names) (a .table .now) _ _ _ (p .0) (c .before .before .before .before .before .before .before .before .before .before .before .before .before .before .before .before .before .one .ensures) (c .before .before .before .before .before .before .before .before .before .before .before .before .if1 .left) in
-    (t .0, (t .1, (tag-still (a .base) (a .s .now) (a .names) (a .table .now) _ _ _ (p .0) (c .before .before .before .before .before .before .before .before .before .before .before .before .before .before .before .before .before .one .ensures) (c .before .before .before .before .before .before .before .before .before .before .before .before .if1 .left) (a .still) (p .1 .0), others-room (a .base) (a .s .now) (a .names) (a .table .now) _ _ _ (p .0) (c .before .before .before .before .before .before .before .before .before .before .before .before .before .before .before .before .before .one .ensures) (c .before .before .before .before .before .before .before .before .before .before .before .before .if1 .left) (a .query) (a .document .now) (a .element .now) (a .name .now) _ _ _ _ (c .before .before .before .before .before .before .before .before .before .before .is-element .ensures) (c .before .before .before .before .before .before .before .before .before .takes-all .ensures) (c .before .takes-one .ensures) (c .before .before .before .before .before .before .before .before .both .ensures) (a .write) (a .to) (a .rows .now) (p .1 .1 .0) _ _ (c .before .before .before .before .before .take-first .ensures) (p .1 .1 .1))))
+    let a = c .before .before .before .before .before .before .before .before .before .before .before .before .before .before .before .before .before .before .before .before .before .before .before .before .before .args in
+    let p = c .before .before .before .before .before .before .before .before .before .before .before .before .before .before .before .before .before .before .before .before .before .before .before .before .before .pre in
+    let t = tag-ready (a .base) (a .s .now) (a .names) (a .table .now) _ _ _ (p .0) (c .before .before .before .before .before .before .before .before .before .before .before .before .before .before .before .before .one .ensures) (c .before .before .before .before .before .before .before .before .before .before .before .if1 .left) in
+    (t .0, (t .1, (tag-still (a .base) (a .s .now) (a .names) (a .table .now) _ _ _ (p .0) (c .before .before .before .before .before .before .before .before .before .before .before .before .before .before .before .before .one .ensures) (c .before .before .before .before .before .before .before .before .before .before .before .if1 .left) (a .still) (p .1 .0), others-room (a .base) (a .s .now) (a .names) (a .table .now) _ _ _ (p .0) (c .before .before .before .before .before .before .before .before .before .before .before .before .before .before .before .before .one .ensures) (c .before .before .before .before .before .before .before .before .before .before .before .if1 .left) (a .query) (a .document .now) (a .element .now) (a .name .now) _ _ _ _ (c .before .before .before .before .before .before .before .before .before .is-element .ensures) (c .before .before .before .before .before .before .before .before .takes-all .ensures) (c .before .takes-one .ensures) refl (a .write) (a .to) (a .rows .now) (p .1 .1 .0) _ _ (c .before .before .before .before .before .take-first .ensures) (p .1 .1 .1))))
 
 add-t39 : tie.Need-add-t39
 add-t39 c =
-    let a = c .before .before .before .before .before .before .before .before .before .before .before .before .before .before .before .before .before .before .before .before .before .before .before .before .before .before .before .before .before .before .before .args in
-    let p = c .before .before .before .before .before .before .before .before .before .before .before .before .before .before .before .before .before .before .before .before .before .before .before .before .before .before .before .before .before .before .before .pre in
-    omega (arith, own-few (a .base) (a .s .now) (a .names) (a .table .now) _ _ _ (p .0) (c .before .before .before .before .before .before .before .before .before .before .before .before .before .before .before .before .before .before .before .before .before .before .one .ensures) (c .before .before .before .before .before .before .before .before .before .before .before .before .before .before .before .before .before .if1 .left) (a .query) (a .document .now) (a .element .now) (a .name .now) _ _ _ _ (c .before .before .before .before .before .before .before .before .before .before .before .before .before .before .before .is-element .ensures) (c .before .before .before .before .before .before .before .before .before .before .before .before .before .before .takes-all .ensures) (c .before .before .before .before .before .before .takes-one .ensures) (c .before .before .before .before .before .before .before .before .before .before .before .before .before .both .ensures) (a .write) (a .to) (a .rows .now) (p .1 .1 .0) _ _ (c .before .before .before .before .before .before .before .before .before .before .take-first .ensures) (p .1 .1 .1), c .before .before .before .before .take-rest .ensures .0, p .0 .in-store)
+    let a = c .before .before .before .before .before .before .before .before .before .before .before .before .before .before .before .before .before .before .before .before .before .before .before .before .before .before .before .before .before .before .args in
+    let p = c .before .before .before .before .before .before .before .before .before .before .before .before .before .before .before .before .before .before .before .before .before .before .before .before .before .before .before .before .before .before .pre in
+    omega (arith, own-few (a .base) (a .s .now) (a .names) (a .table .now) _ _ _ (p .0) (c .before .before .before .before .before .before .before .before .before .before .before .before .before .before .before .before .before .before .before .before .before .one .ensures) (c .before .before .before .before .before .before .before .before .before .before .before .before .before .before .before .before .if1 .left) (a .query) (a .document .now) (a .element .now) (a .name .now) _ _ _ _ (c .before .before .before .before .before .before .before .before .before .before .before .before .before .before .is-element .ensures) (c .before .before .before .before .before .before .before .before .before .before .before .before .before .takes-all .ensures) (c .before .before .before .before .before .before .takes-one .ensures) refl (a .write) (a .to) (a .rows .now) (p .1 .1 .0) _ _ (c .before .before .before .before .before .before .before .before .before .before .take-first .ensures) (p .1 .1 .1), c .before .before .before .before .take-rest .ensures .0, p .0 .in-store)
 
 same-length-2 : tie.Need-same-length-2
 same-length-2 c = search needs
@@ -93,9 +90,9 @@ same-length-3 c = search needs
 
 returns-2 : tie.Need-returns-2
 returns-2 c =
-    let a = c .before .before .before .before .before .before .before .before .before .before .before .before .before .before .before .before .before .before .before .before .before .before .before .before .before .before .before .before .before .before .before .args in
-    let p = c .before .before .before .before .before .before .before .before .before .before .before .before .before .before .before .before .before .before .before .before .before .before .before .before .before .before .before .before .before .before .before .pre in
-    (all-chosen (a .base) (a .s .now) (a .names) (a .table .now) _ _ _ (p .0) (c .before .before .before .before .before .before .before .before .before .before .before .before .before .before .before .before .before .before .before .before .before .before .one .ensures) (c .before .before .before .before .before .before .before .before .before .before .before .before .before .before .before .before .before .if1 .left) (a .query) (a .document .now) (a .element .now) (a .name .now) _ _ _ _ (c .before .before .before .before .before .before .before .before .before .before .before .before .before .before .before .is-element .ensures) (c .before .before .before .before .before .before .before .before .before .before .before .before .before .before .takes-all .ensures) (c .before .before .before .before .before .before .takes-one .ensures) (c .before .before .before .before .before .before .before .before .before .before .before .before .before .both .ensures) (a .write) (a .to) (a .rows .now) (p .1 .1 .0) _ _ (c .before .before .before .before .before .before .before .before .before .before .take-first .ensures) (p .1 .1 .1) _ _ (c .before .before .before .before .take-rest .ensures .1 .1), (event-kind (a .base) (a .s .now) (a .names) (a .table .now) _ _ _ (p .0) (c .before .before .before .before .before .before .before .before .before .before .before .before .before .before .before .before .before .before .before .before .before .before .one .ensures), tag-grown (a .base) (a .s .now) (a .names) (a .table .now) _ _ _ (p .0) (c .before .before .before .before .before .before .before .before .before .before .before .before .before .before .before .before .before .before .before .before .before .before .one .ensures) (c .before .before .before .before .before .before .before .before .before .before .before .before .before .before .before .before .before .if1 .left) _ (c .before .before .before .before .take-rest .ensures .1 .0)))
+    let a = c .before .before .before .before .before .before .before .before .before .before .before .before .before .before .before .before .before .before .before .before .before .before .before .before .before .before .before .before .before .before .args in
+    let p = c .before .before .before .before .before .before .before .before .before .before .before .before .before .before .before .before .before .before .before .before .before .before .before .before .before .before .before .before .before .before .pre in
+    (all-chosen (a .base) (a .s .now) (a .names) (a .table .now) _ _ _ (p .0) (c .before .before .before .before .before .before .before .before .before .before .before .before .before .before .before .before .before .before .before .before .before .one .ensures) (c .before .before .before .before .before .before .before .before .before .before .before .before .before .before .before .before .if1 .left) (a .query) (a .document .now) (a .element .now) (a .name .now) _ _ _ _ (c .before .before .before .before .before .before .before .before .before .before .before .before .before .before .is-element .ensures) (c .before .before .before .before .before .before .before .before .before .before .before .before .before .takes-all .ensures) (c .before .before .before .before .before .before .takes-one .ensures) refl (a .write) (a .to) (a .rows .now) (p .1 .1 .0) _ _ (c .before .before .before .before .before .before .before .before .before .before .take-first .ensures) (p .1 .1 .1) _ _ (c .before .before .before .before .take-rest .ensures .1 .1), (event-kind (a .base) (a .s .now) (a .names) (a .table .now) _ _ _ (p .0) (c .before .before .before .before .before .before .before .before .before .before .before .before .before .before .before .before .before .before .before .before .before .one .ensures), tag-grown (a .base) (a .s .now) (a .names) (a .table .now) _ _ _ (p .0) (c .before .before .before .before .before .before .before .before .before .before .before .before .before .before .before .before .before .before .before .before .before .one .ensures) (c .before .before .before .before .before .before .before .before .before .before .before .before .before .before .before .before .if1 .left) _ (c .before .before .before .before .take-rest .ensures .1 .0)))
 
 pub take-event-spec : {M : Type 1} → statement M
 take-event-spec =
@@ -109,7 +106,6 @@ take-event-spec =
     slice-aggregate-is-element
     is-element-requires
     takes-all-requires
-    both-requires
     slice-aggregate-take-first
     take-first-requires
     takes-one-requires

@@ -31,26 +31,23 @@ loop-holds c =
 is-attribute-requires : tie.Need-is-attribute-requires Inv-loop μ-loop
 is-attribute-requires c κs = search needs
 
-is-done-requires : tie.Need-is-done-requires Inv-loop μ-loop
-is-done-requires c κs = search needs
-
 same-length : tie.Need-same-length Inv-loop μ-loop
 same-length c =
-    let a = c .before .before .before .before .before .before .before .before .before .before .args in
-    let l = c .before .before .before .before .loop in
-    ap length (taking-done _ _ _ _ _ _ _ _ _ _ _ _ _ _ _ _ _ _ (l .inv .4) (sym (c .before .is-done .ensures) ∙ c .if2 .taken) .2) ∙ grown-long (a .base) (a .start) (a .table .now) (rest always (a .s .now) (a .start) (a .from))
+    let a = c .before .before .before .before .before .before .before .before .before .args in
+    let l = c .before .before .before .loop in
+    ap length (taking-done _ _ _ _ _ _ _ _ _ _ _ _ _ _ _ _ _ _ (l .inv .4) (c .if2 .taken) .2) ∙ grown-long (a .base) (a .start) (a .table .now) (rest always (a .s .now) (a .start) (a .from))
 
 same-length-2 : tie.Need-same-length-2 Inv-loop μ-loop
 same-length-2 c =
-    let a = c .before .before .before .before .before .before .before .before .before .before .args in
-    let l = c .before .before .before .before .loop in
+    let a = c .before .before .before .before .before .before .before .before .before .args in
+    let l = c .before .before .before .loop in
     taking-long _ _ _ _ _ _ _ _ _ _ _ _ _ _ _ _ _ _ (l .inv .4) ∙ asked-long (a .base) (a .s .now) (a .document .now) (a .name .now) (a .all) (a .one) (a .still) (a .write) (a .to) (a .start) (rest always (a .s .now) (a .start) (a .from)) (a .look) (a .table .now) (a .rows .now)
 
 returns : tie.Need-returns Inv-loop μ-loop
 returns c =
-    let a = c .before .before .before .before .before .before .before .before .before .before .args in
-    let l = c .before .before .before .before .loop in
-    let d = taking-done _ _ _ _ _ _ _ _ _ _ _ _ _ _ _ _ _ _ (l .inv .4) (sym (c .before .is-done .ensures) ∙ c .if2 .taken) in
+    let a = c .before .before .before .before .before .before .before .before .before .args in
+    let l = c .before .before .before .loop in
+    let d = taking-done _ _ _ _ _ _ _ _ _ _ _ _ _ _ _ _ _ _ (l .inv .4) (c .if2 .taken) in
     (omega (arith, l .inv .0, l .inv .2), (d .2, taken-is (a .base) (a .s .now) (a .document .now) (a .name .now) (a .all) (a .one) (a .still) (a .write) (a .to) (a .start) _ (a .look) (a .table .now) (a .rows .now) (l .table) _ _ (d .0) (d .1)))
 
 slice-aggregate-one : tie.Need-slice-aggregate-one Inv-loop μ-loop
@@ -58,9 +55,9 @@ slice-aggregate-one c = search needs
 
 one-requires : tie.Need-one-requires Inv-loop μ-loop
 one-requires c κs =
-    let a = c .before .before .before .before .before .before .before .before .before .before .before .before .args in
-    let l = c .before .before .before .before .before .before .loop in
-    let q = one-asks (a .s .now) (l .names) (l .at) (l .inv .1) (a .base) (l .table) (l .inv .4 .ready) (sym (c .before .before .before .before .before .is-attribute .ensures) ∙ c .before .before .before .before .if1 .taken) in
+    let a = c .before .before .before .before .before .before .before .before .before .before .before .args in
+    let l = c .before .before .before .before .before .loop in
+    let q = one-asks (a .s .now) (l .names) (l .at) (l .inv .1) (a .base) (l .table) (l .inv .4 .ready) (sym (c .before .before .before .before .is-attribute .ensures) ∙ c .before .before .before .if1 .taken) in
     ((l .inv .0, l .inv .3), q)
 
 slice-aggregate-is-taken : tie.Need-slice-aggregate-is-taken Inv-loop μ-loop
@@ -68,20 +65,20 @@ slice-aggregate-is-taken c = search needs
 
 is-taken-requires : tie.Need-is-taken-requires Inv-loop μ-loop
 is-taken-requires c κs =
-    let a = c .before .before .before .before .before .before .before .before .before .before .before .before .before .before .before .before .before .before .args in
-    let l = c .before .before .before .before .before .before .before .before .before .before .before .before .loop in
+    let a = c .before .before .before .before .before .before .before .before .before .before .before .before .before .before .before .before .before .args in
+    let l = c .before .before .before .before .before .before .before .before .before .before .before .loop in
     row-eight _ _ _ _ _ _ _ _ _ _ (one-here (a .s .now) (l .names) (l .at) (l .inv .1) (a .base) (l .table) _ _ _ (c .before .before .before .before .before .one .ensures))
 
 mul-put-taken : tie.Need-mul-put-taken Inv-loop μ-loop
 mul-put-taken c =
-    let l = c .before .before .before .before .before .before .before .before .before .before .before .before .before .before .before .loop in
+    let l = c .before .before .before .before .before .before .before .before .before .before .before .before .before .before .loop in
     omega (arith, l .inv .0, l .inv .2, l .inv .4 .ready .in-store)
 
 add-put-taken : tie.Need-add-put-taken Inv-loop μ-loop
 add-put-taken c =
-    let a = c .before .before .before .before .before .before .before .before .before .before .before .before .before .before .before .before .before .before .before .before .before .args in
-    let l = c .before .before .before .before .before .before .before .before .before .before .before .before .before .before .before .loop in
-    let r = (c .before .before .before .before .before .before .before .before .before .before .before .before .before .before .before .before .before .before .before .before .before .pre) .1 .1 .1 in
+    let a = c .before .before .before .before .before .before .before .before .before .before .before .before .before .before .before .before .before .before .before .before .args in
+    let l = c .before .before .before .before .before .before .before .before .before .before .before .before .before .before .loop in
+    let r = (c .before .before .before .before .before .before .before .before .before .before .before .before .before .before .before .before .before .before .before .before .pre) .1 .1 .1 in
     byTest (a .write) (λ t. omega (arith, l .inv .4 .room t, taking-few _ _ _ _ _ _ _ _ _ _ _ _ _ _ _ _ _ _ (l .inv .4), taking-long _ _ _ _ _ _ _ _ _ _ _ _ _ _ _ _ _ _ (l .inv .4), asked-long (a .base) (a .s .now) (a .document .now) (a .name .now) (a .all) (a .one) (a .still) (a .write) (a .to) (a .start) (rest always (a .s .now) (a .start) (a .from)) (a .look) (a .table .now) (a .rows .now), r .sized)) (λ t. omega (arith, r .counts t, l .inv .0, l .inv .2, l .inv .4 .ready .in-store))
 
 slice-aggregate-put-taken : tie.Need-slice-aggregate-put-taken Inv-loop μ-loop
@@ -89,41 +86,41 @@ slice-aggregate-put-taken c = search needs
 
 put-taken-requires : tie.Need-put-taken-requires Inv-loop μ-loop
 put-taken-requires c κs =
-    let a = c .before .before .before .before .before .before .before .before .before .before .before .before .before .before .before .before .before .before .before .before .before .before .args in
-    let l = c .before .before .before .before .before .before .before .before .before .before .before .before .before .before .before .before .loop in
+    let a = c .before .before .before .before .before .before .before .before .before .before .before .before .before .before .before .before .before .before .before .before .before .args in
+    let l = c .before .before .before .before .before .before .before .before .before .before .before .before .before .before .before .loop in
     let o = (one-here (a .s .now) (l .names) (l .at) (l .inv .1) (a .base) (l .table) _ _ _ (c .before .before .before .before .before .before .before .before .before .one .ensures)) in
     (taking-room _ _ _ _ _ _ _ _ _ _ _ _ _ _ _ _ _ _ (l .inv .4) _ _ _ _ _ o (sym (c .before .before .before .is-taken .ensures) ∙ c .before .before .if3 .taken), row-eight _ _ _ _ _ _ _ _ _ _ o)
 
 add-count : tie.Need-add-count Inv-loop μ-loop
 add-count c =
-    let l = c .before .before .before .before .before .before .before .before .before .before .before .before .before .before .before .before .before .before .before .loop in
+    let l = c .before .before .before .before .before .before .before .before .before .before .before .before .before .before .before .before .before .before .loop in
     omega (arith, l .inv .0, l .inv .2, l .inv .4 .ready .in-store)
 
 loop-less : tie.Need-loop-less Inv-loop μ-loop
 loop-less c =
-    let a = c .before .before .before .before .before .before .before .before .before .before .before .before .before .before .before .before .before .before .before .before .before .before .before .before .before .args in
-    let l = c .before .before .before .before .before .before .before .before .before .before .before .before .before .before .before .before .before .before .before .loop in
+    let a = c .before .before .before .before .before .before .before .before .before .before .before .before .before .before .before .before .before .before .before .before .before .before .before .before .args in
+    let l = c .before .before .before .before .before .before .before .before .before .before .before .before .before .before .before .before .before .before .loop in
     let o = (one-here (a .s .now) (l .names) (l .at) (l .inv .1) (a .base) (l .table) _ _ _ (c .before .before .before .before .before .before .before .before .before .before .before .before .one .ensures)) in
     omega (arith, o .moves, o .within)
 
 loop-again : tie.Need-loop-again Inv-loop μ-loop
 loop-again c =
-    let a = c .before .before .before .before .before .before .before .before .before .before .before .before .before .before .before .before .before .before .before .before .before .before .before .before .before .args in
-    let l = c .before .before .before .before .before .before .before .before .before .before .before .before .before .before .before .before .before .before .before .loop in
+    let a = c .before .before .before .before .before .before .before .before .before .before .before .before .before .before .before .before .before .before .before .before .before .before .before .before .args in
+    let l = c .before .before .before .before .before .before .before .before .before .before .before .before .before .before .before .before .before .before .loop in
     let o = (one-here (a .s .now) (l .names) (l .at) (l .inv .1) (a .base) (l .table) _ _ _ (c .before .before .before .before .before .before .before .before .before .before .before .before .one .ensures)) in
     (o .within, omega (arith, o .moves), omega (arith, o .moves, l .inv .2), row-eight _ _ _ _ _ _ _ _ _ _ o, taking-more _ _ _ _ _ _ _ _ _ _ _ _ _ _ _ _ _ _ (l .inv .4) _ _ _ _ _ o (sym (c .before .before .before .before .before .before .is-taken .ensures) ∙ c .before .before .before .before .before .if3 .taken) _ (c .before .before .put-taken .ensures))
 
 loop-less-2 : tie.Need-loop-less-2 Inv-loop μ-loop
 loop-less-2 c =
-    let a = c .before .before .before .before .before .before .before .before .before .before .before .before .before .before .before .before .before .before .before .before .args in
-    let l = c .before .before .before .before .before .before .before .before .before .before .before .before .before .before .loop in
+    let a = c .before .before .before .before .before .before .before .before .before .before .before .before .before .before .before .before .before .before .before .args in
+    let l = c .before .before .before .before .before .before .before .before .before .before .before .before .before .loop in
     let o = (one-here (a .s .now) (l .names) (l .at) (l .inv .1) (a .base) (l .table) _ _ _ (c .before .before .before .before .before .before .before .one .ensures)) in
     omega (arith, o .moves, o .within)
 
 loop-again-2 : tie.Need-loop-again-2 Inv-loop μ-loop
 loop-again-2 c =
-    let a = c .before .before .before .before .before .before .before .before .before .before .before .before .before .before .before .before .before .before .before .before .args in
-    let l = c .before .before .before .before .before .before .before .before .before .before .before .before .before .before .loop in
+    let a = c .before .before .before .before .before .before .before .before .before .before .before .before .before .before .before .before .before .before .before .args in
+    let l = c .before .before .before .before .before .before .before .before .before .before .before .before .before .loop in
     let o = (one-here (a .s .now) (l .names) (l .at) (l .inv .1) (a .base) (l .table) _ _ _ (c .before .before .before .before .before .before .before .one .ensures)) in
     (o .within, omega (arith, o .moves), omega (arith, o .moves, l .inv .2), row-eight _ _ _ _ _ _ _ _ _ _ o, taking-skip _ _ _ _ _ _ _ _ _ _ _ _ _ _ _ _ _ _ (l .inv .4) _ _ _ _ _ o (sym (c .before .is-taken .ensures) ∙ c .if3 .left))
 
@@ -154,7 +151,6 @@ take-rest-spec =
     μ-loop
     loop-holds
     is-attribute-requires
-    is-done-requires
     same-length
     same-length-2
     returns
