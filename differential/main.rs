@@ -15,16 +15,17 @@ mod stream;
 mod vectors;
 mod walk;
 mod writer;
+mod xml;
 
 use std::process::ExitCode;
 
 use documents::Random;
 use report::Report;
 
-const USAGE: &str = "usage: compare short|long [SEED [slice|writer|stream|queries]...]
+const USAGE: &str = "usage: compare short|long [SEED [slice|writer|stream|queries|xml]...]
        compare vectors";
 
-const PARTS: [&str; 4] = ["slice", "writer", "stream", "queries"];
+const PARTS: [&str; 5] = ["slice", "writer", "stream", "queries", "xml"];
 
 fn main() -> ExitCode {
     let args: Vec<String> = std::env::args().skip(1).collect();
@@ -66,6 +67,10 @@ fn main() -> ExitCode {
     if asked("queries") {
         queries::queries(&mut report, long, random);
         refusals.extend([10, 11, 17, 19]);
+    }
+    if asked("xml") {
+        xml::xml(&mut report, long, random);
+        refusals.extend([15, 20]);
     }
     refusals.sort();
     refusals.dedup();

@@ -20,7 +20,7 @@ pub struct Seen {
     pub calls: u64,
     pub kinds: [u64; 16],
     pub types: [u64; 16],
-    pub refusals: [u64; 20],
+    pub refusals: [u64; 21],
 }
 
 impl Seen {
@@ -107,7 +107,7 @@ impl Report {
             all.kinds[i] += seen.kinds[i];
             all.types[i] += seen.types[i];
         }
-        for i in 0..20 {
+        for i in 0..21 {
             all.refusals[i] += seen.refusals[i];
         }
     }

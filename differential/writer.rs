@@ -13,15 +13,15 @@ use crate::walk::{Walk, POOL_LIMIT};
 
 /// A list as our writer takes it: rows, and the two stores of their spans.
 #[derive(Clone, Copy)]
-struct List<'a> {
-    first: &'a [u8],
-    second: &'a [u8],
-    rows: &'a [u32],
+pub struct List<'a> {
+    pub first: &'a [u8],
+    pub second: &'a [u8],
+    pub rows: &'a [u32],
 }
 
 /// What a list of events is made from.
 #[derive(Default)]
-struct Stored {
+pub struct Stored {
     stores: [Vec<u8>; 2],
     words: Vec<u32>,
     /// How many words there are at each event's end.
@@ -29,7 +29,7 @@ struct Stored {
 }
 
 impl Stored {
-    fn new(events: &[Event]) -> Stored {
+    pub fn new(events: &[Event]) -> Stored {
         let mut stored = Stored::default();
         for event in events {
             for row in rows::of(event) {
@@ -64,7 +64,7 @@ impl Stored {
     }
 
     /// The rows of some events of the list.
-    fn part(&self, from: usize, to: usize) -> List<'_> {
+    pub fn part(&self, from: usize, to: usize) -> List<'_> {
         let place = |event: usize| if event == 0 { 0 } else { self.ends[event - 1] };
         self.rows(&self.words[place(from)..place(to)])
     }
@@ -375,7 +375,7 @@ fn write(report: &mut Report, name: &str, len: usize, calls: Calls, documents: i
 }
 
 /// The events up to the end or the first refusal.
-fn events_of(document: &[u8]) -> Vec<Event> {
+pub fn events_of(document: &[u8]) -> Vec<Event> {
     let mut events = vec![];
     if let Ok(mut parser) = AbxParser::new(document) {
         while let Ok(Some(event)) = parser.next_event() {

@@ -1,6 +1,7 @@
 """Inputs of the listing program and what it must print. What is expected is written down here or made beside the input, by the
 paper; nothing of it comes from the program. Each case: name, input, output, and whether the Rust reads it the same (it has no
 limits like 10 to 13)."""
+import random
 
 H = b"ABX\0"
 WINDOW = 65536
@@ -154,3 +155,43 @@ def cases():
     yield from spaces()
     for name, data, text in large():
         yield name, data, text, True
+
+
+def seeded(seed, n):
+    """Documents with a bit of everything, some cut short, some with a byte changed."""
+    r = random.Random(seed)
+    for _ in range(n):
+        data = H
+        names = 0
+        for _ in range(r.randrange(8)):
+            kind = r.randrange(6)
+            name = new(bytes(r.choice(b"abc") for _ in range(r.randrange(4)))) if names == 0 or r.random() < 0.5 else u16(r.randrange(names))
+            names += name[:2] == b"\xff\xff"
+            if kind < 2:
+                data += bytes([kind + 16])
+            elif kind == 2:
+                data += bytes([0x20 + r.randrange(4, 11)]) + sized("aé€"[:r.randrange(4)].encode())
+            elif kind == 3:
+                data += b"\x33" + name
+            else:
+                data += b"\x32" + name
+                for _ in range(r.randrange(4)):
+                    type_ = r.randrange(1, 14)
+                    value = b""
+                    if type_ in (2, 4, 5):
+                        value = sized(bytes(r.choice(b"xyz") for _ in range(r.randrange(5))))
+                    elif type_ == 3:
+                        value = new(b"v") if r.random() < 0.5 else u16(r.randrange(names))
+                    elif type_ in (6, 7, 10):
+                        value = r.randbytes(4)
+                    elif type_ in (8, 9, 11):
+                        value = r.randbytes(8)
+                    data += bytes([type_ * 16 + 15]) + u16(r.randrange(names)) + value
+                    names += value[:2] == b"\xff\xff" and type_ == 3
+        change = r.randrange(3)
+        if change == 1:
+            data = data[:r.randrange(len(data) + 1)]
+        elif change == 2:
+            at = r.randrange(len(data))
+            data = data[:at] + r.randbytes(1) + data[at + 1:]
+        yield data

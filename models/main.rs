@@ -8,6 +8,7 @@ mod names;
 mod ours;
 mod same_bytes;
 mod writer;
+mod xml;
 
 use std::process::ExitCode;
 
@@ -21,7 +22,9 @@ fn main() -> ExitCode {
     let good = same_bytes::stored_agree()
         && same_bytes::agrees(random, 1_000_000)
         && names::agree(random, 1_500)
-        && writer::agrees(random, 100_000);
+        && writer::agrees(random, 100_000)
+        && xml::stored_agree()
+        && xml::agrees(random, 60_000);
     if good {
         println!("models: no difference");
         return ExitCode::SUCCESS;

@@ -4,11 +4,11 @@
  * function writes (a pointer without const) overlaps nothing else that it is lent; nobody else writes any of it until it returns.
  *
  * An answer is four words, and is written where answer_len is 4 or more: ABX_DONE and what was asked for; ABX_END; ABX_REFUSED, a
- * refusal's number (ABX_HEADER_SHORT to ABX_BAD_STATE) and its detail, which is 0 where none is named; or ABX_NEED_MORE. A word of the four that is not
+ * refusal's number (ABX_HEADER_SHORT to ABX_ILLEGAL_CHAR) and its detail, which is 0 where none is named; or ABX_NEED_MORE. A word of the four that is not
  * named at a function is 0. Fewer than four are left as they are. A refused call changes nothing else, but for a query, which keeps what it found.
  *
- * Stack: a call that handles one event takes less than 64 KB (abx_write_event where it has at most 1,024 rows); a query, a list, and a
- * longer event less than 600 KB, but where more than 20,480 different names are written, 1.6 MB.
+ * Stack: a call that handles one event takes less than 64 KB (abx_write_event where it has at most 1,024 rows), and so does abx_to_xml; a query, a list
+ * that is written as ABX, and a longer event less than 600 KB, but where more than 20,480 different names are written, 1.6 MB.
  *
  * A row is eight words: kind; name (source, start, length); type; value (source, a, b). A word that its kind or type has no use for is 0. A span's source
  * is 0 for the document, the window or the first store, 1 for the name store or the second store. A pool has two words for a name, and an even
@@ -82,7 +82,19 @@ enum {
     ABX_NOT_ROWS = 16,              /* words that form no rows, or a span that ends outside its store */
     ABX_BAD_SIZE = 17,              /* a lent buffer of a length that no call takes */
     ABX_ALREADY_FINISHED = 18,      /* a feed or finish after a finish */
-    ABX_BAD_STATE = 19              /* a state's count or place, or a pool pair, outside its buffer */
+    ABX_BAD_STATE = 19,             /* a state's count or place, or a pool pair, outside its buffer */
+    ABX_ILLEGAL_CHAR = 20,          /* a character outside XML 1.0's Char production */
+    /* these no call gives yet */
+    ABX_PART_MISSING = 21,          /* a part of a stored version is missing or unfit */
+    ABX_NO_SUCH_VERSION = 22,       /* a version above the newest, or 0 */
+    ABX_STORE_FULL = 23,            /* too few unused blocks at the end of a store of versions, or no number left for one more */
+    ABX_EXERCISE_TOO_LONG = 24,     /* an exercise of over 1,000 events */
+    ABX_CALLER_LIMIT = 25,          /* the event passes its caller's limit */
+    ABX_BAD_TOKEN_TABLE = 26,       /* a token table of another length, or that breaks the tables' rule */
+    ABX_BAD_SIGN_ON = 27,           /* a sign-on record that lacks an Int, or whose panel's times fall */
+    ABX_BAD_TOLERANCE = 28,         /* times that may be over 60 seconds apart */
+    ABX_BAD_IDLE_LIMIT = 29,        /* an idle limit outside 1 to 480 minutes */
+    ABX_BAD_USE = 30                /* a use that lacks an Int, or is out of range or out of order */
 };
 
 /* Whether s is well-formed UTF-8. */
@@ -161,6 +173,25 @@ void abx_write_event(size_t written, size_t names, const uint8_t *first, size_t 
 void abx_write_events(size_t written, size_t names, const uint8_t *first, size_t first_len, const uint8_t *second,
                       size_t second_len, const uint32_t *rows, size_t rows_len, uint8_t *output, size_t output_len,
                       uint32_t *pool, size_t pool_len, size_t *answer, size_t answer_len);
+
+/* ---- XML text: UTF-8 in the output's first bytes, of at most 16,777,216; the bytes after it stay. Start tags are <name a="v" b="w">, end tags
+ * </name>. ABX_TEXT and the values of ABX_STRING are escaped: &lt; &gt; &amp; &quot; &apos;. Names and the other texts are printed as they are:
+ * <![CDATA[t]]>, &t;, t (white space), <?t?>, <!--t-->, <!DOCTYPE t>. ABX_INT and ABX_LONG are signed decimals, ABX_INT_HEX and ABX_LONG_HEX
+ * signed hex (-35014542 for CAFEBABE), ABX_BYTES_HEX hex and ABX_BYTES_BASE64 padded base64, ABX_FLOAT and ABX_DOUBLE their bits in 8 or 16 hex
+ * digits, booleans true or false, ABX_NULL nothing between its quotes. Document events print nothing, and nothing stands between events. */
+
+/* DONE, bytes of text: a list of events, all or none. Refused by ABX_BAD_SIZE, then by ABX_NOT_ROWS for the whole list, then event by event: by
+ * ABX_INVALID_UTF8 for any of its strings, by ABX_ILLEGAL_CHAR for any of them, by ABX_OUTPUT_FULL. Strings and blobs may have any length. */
+void abx_to_xml(const uint8_t *first, size_t first_len, const uint8_t *second, size_t second_len,
+                const uint32_t *rows, size_t rows_len, uint8_t *output, size_t output_len, size_t *answer,
+                size_t answer_len);
+
+/* DONE, bytes of text: of a list's row, counted from 0, its part of its event's text: `<name` or ` a="v"`, with `>` after it where it is the last row
+ * of its start tag; of another event its whole text. The texts of an event's rows, one after the other, are the event's. Refused as above, with
+ * ABX_NOT_ROWS where there is no such row, or it does not form where it stands; the other rows are not looked at. */
+void abx_row_to_xml(size_t row, const uint8_t *first, size_t first_len, const uint8_t *second, size_t second_len,
+                    const uint32_t *rows, size_t rows_len, uint8_t *output, size_t output_len, size_t *answer,
+                    size_t answer_len);
 
 #ifdef __cplusplus
 }

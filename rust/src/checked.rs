@@ -299,3 +299,32 @@ pub(crate) fn write_events(
     let answer = library::abx_write_events(bytes, names, store, &[], rows, output, pool);
     Written::checked(answer, output, pool)
 }
+
+// ---- XML text
+
+fn text_len(answer: Answer, output: &[u8]) -> Result<usize> {
+    match answer {
+        [DONE, len, _, _] => {
+            in_range(len <= output.len())?;
+            Ok(len)
+        }
+        _ => Err(refusal(answer)),
+    }
+}
+
+/// Prints a list, and says how many bytes its text has.
+pub(crate) fn to_xml(store: &[u8], rows: &[u32], output: &mut [u8]) -> Result<usize> {
+    let answer = library::abx_to_xml(store, &[], rows, output);
+    text_len(answer, output)
+}
+
+/// The same of one row of a list, counted from 0.
+pub(crate) fn row_to_xml(
+    row: usize,
+    store: &[u8],
+    rows: &[u32],
+    output: &mut [u8],
+) -> Result<usize> {
+    let answer = library::abx_row_to_xml(row, store, &[], rows, output);
+    text_len(answer, output)
+}

@@ -9,7 +9,7 @@ pub type Result<T> = std::result::Result<T, AbxError>;
 
 /// Why a call did not do what it was asked: what is wrong with a document or a value, an error of a source or a sink, or a limit.
 ///
-/// What the library refuses has a [`number`](Self::number) from 1 to 19. Where a reader or a writer owns the buffer that a refusal is
+/// What the library refuses has a [`number`](Self::number) from 1 to 20. Where a reader or a writer owns the buffer that a refusal is
 /// about, it makes it longer and tries again: `RowsFull`, `PoolFull` and `NamesFull` are seen only at the library's own limits, `NotRows` and
 /// `BadState` not at all.
 ///
@@ -50,7 +50,7 @@ pub enum AbxError {
         /// How many it may have: 65,535.
         max: usize,
     },
-    /// 15: an event and all names before it have more bytes than [`MAX_OUTPUT`](crate::MAX_OUTPUT).
+    /// 15: an event and all names before it, or an attribute, name or text as XML, have more bytes than [`MAX_OUTPUT`](crate::MAX_OUTPUT).
     OutputFull,
     /// 16: words that form no rows.
     NotRows,
@@ -60,6 +60,8 @@ pub enum AbxError {
     AlreadyFinished,
     /// 19: a count or place outside its buffer.
     BadState,
+    /// 20: a character that XML 1.0 does not allow, such as U+0000 or U+FFFE, in a string that is to be XML.
+    IllegalChar,
     /// A source could not be read, or a sink not be written.
     Io(io::Error),
     /// The library's answer is none that it can give. The library that is linked is not the one that this crate was made for.
@@ -104,6 +106,8 @@ impl AbxError {
             17 => AbxError::BadSize,
             18 => AbxError::AlreadyFinished,
             19 => AbxError::BadState,
+            20 => AbxError::IllegalChar,
+            // 21 to 30 have a name in `abx.h`, and no call gives them yet.
             _ => return AbxError::BadAnswer("a refusal of no known number"),
         };
         // What a cast above cut off, or a detail where none is named.
@@ -118,7 +122,7 @@ impl AbxError {
         AbxError::ValueTooLong { len, max }
     }
 
-    /// The refusal's number, from 1 to 19. None for an error that is no refusal.
+    /// The refusal's number, from 1 to 20. None for an error that is no refusal.
     pub fn number(&self) -> Option<u32> {
         Some(match self {
             AbxError::UnexpectedEof(what) => match *what {
@@ -143,6 +147,7 @@ impl AbxError {
             AbxError::BadSize => 17,
             AbxError::AlreadyFinished => 18,
             AbxError::BadState => 19,
+            AbxError::IllegalChar => 20,
             AbxError::Io(_)
             | AbxError::BadAnswer(_)
             | AbxError::Nom(_)
@@ -200,6 +205,7 @@ impl fmt::Display for AbxError {
             AbxError::BadSize => write!(f, "a document or window of a length that is not taken"),
             AbxError::AlreadyFinished => write!(f, "the input was finished before"),
             AbxError::BadState => write!(f, "a count or place outside its buffer"),
+            AbxError::IllegalChar => write!(f, "a string has a character that XML does not allow"),
             AbxError::Io(error) => write!(
                 f,
                 "the input could not be read, or the output not be written: {error}"
@@ -235,14 +241,14 @@ mod tests {
 
     #[test]
     fn every_number_has_its_name() {
-        for number in 1..=19 {
+        for number in 1..=20 {
             let refusal = AbxError::refused(number, 0);
             assert_eq!(refusal.number(), Some(number as u32));
             assert_eq!(refusal.detail(), 0);
             assert!(refusal.to_string().len() > 10);
             assert!(refusal.source().is_none());
         }
-        for number in [0, 20, usize::MAX] {
+        for number in [0, 21, 30, usize::MAX] {
             assert_eq!(AbxError::refused(number, 0).number(), None);
         }
         assert_eq!(AbxError::UnexpectedEof("elsewhere").number(), None);

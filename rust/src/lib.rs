@@ -38,6 +38,7 @@ mod slice;
 mod stream;
 mod text;
 mod writer;
+mod xml;
 
 pub use borrowed::{AttributeRef, Attributes, EventRef, ValueRef};
 pub use buffers::{Sizes, MAX_DOCUMENT, MAX_NAMES, MAX_OUTPUT, MAX_STORE, MAX_WINDOW, MIN_WINDOW};
@@ -47,6 +48,7 @@ pub use name::InternedStr;
 pub use slice::{AbxParser, AbxParserOwned};
 pub use stream::{AbxPushParser, AbxStreamParser, Next};
 pub use writer::{events_to_abx, AbxWriter};
+pub use xml::events_to_xml;
 
 // The README's examples are compiled and run with the tests.
 #[cfg(doctest)]

@@ -83,6 +83,9 @@ library! {
     fn abx_writer_create(; output: &mut [u8], pool: &[u32]);
     fn abx_write_event(written, names; first: &[u8], second: &[u8], rows: &[u32], output: &mut [u8], pool: &mut [u32]);
     fn abx_write_events(written, names; first: &[u8], second: &[u8], rows: &[u32], output: &mut [u8], pool: &mut [u32]);
+
+    fn abx_to_xml(; first: &[u8], second: &[u8], rows: &[u32], output: &mut [u8]);
+    fn abx_row_to_xml(row; first: &[u8], second: &[u8], rows: &[u32], output: &mut [u8]);
 }
 
 pub(crate) fn abx_is_utf8(s: &[u8]) -> bool {

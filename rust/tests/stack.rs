@@ -240,6 +240,27 @@ fn a_list_that_is_refused_late() {
     );
 }
 
+#[test]
+fn xml_text() {
+    let mut list = List::new(&short_names(0, 70_000));
+    let tag = tag(70_000);
+    let mut output = vec![0; 16_777_216];
+    for list in [&list, &tag] {
+        let print = || abx_to_xml(&list.store, &[], &list.rows, &mut output);
+        let [0, _, 0, 0] = with_stack(ONE_EVENT, "to_xml", print) else {
+            panic!("refused");
+        };
+        let print = || abx_row_to_xml(69_999, &list.store, &[], &list.rows, &mut output);
+        let [0, _, 0, 0] = with_stack(ONE_EVENT, "row_to_xml", print) else {
+            panic!("refused");
+        };
+    }
+    // one that is refused late
+    list.rows.extend([3, 0, u32::MAX, 1, 0, 0, 0, 0]);
+    let print = || abx_to_xml(&list.store, &[], &list.rows, &mut output);
+    assert_eq!(with_stack(ONE_EVENT, "to_xml", print), [2, 16, 0, 0]);
+}
+
 #[cfg(feature = "queries")]
 #[test]
 fn queries() {

@@ -5,6 +5,7 @@ use Prim.Native.Nat.{ℕ}
 use Rattle.slice_spec.specs.Slice as Slice
 use Rattle.stream_spec.specs.Stream as Chunks
 use Rattle.writer_spec.specs.Writer as Writer
+use Rattle.xml_spec.specs.ToXml as Xml
 use Rattle.slice.specs.declared.Place as Coded
 use Rattle.slice.specs.declared.Next.{Next}
 use Rattle.slice.specs.declared.Next.the-variants as Next
@@ -17,7 +18,10 @@ use Rattle.stream.specs.declared.Closed.the-variants as Closed
 use Rattle.stream.specs.declared.Answer.{Answer}
 use Rattle.stream.specs.declared.Answer.the-variants as Answer
 use Rattle.stream.specs.Answers.{fedOf, closedOf, answerOf}
-use Rattle.abx_words.specs.Words.{answered, nextWords, NextLeft, replyWords, chunkWords, kept, Told, StreamLeft, WriteLeft}
+use Rattle.xml.specs.declared.Printed.{Printed}
+use Rattle.xml.specs.declared.Printed.the-variants as Printed
+use Rattle.xml.specs.Answers.{printedOf}
+use Rattle.abx_words.specs.Words.{answered, nextWords, NextLeft, replyWords, chunkWords, kept, Told, StreamLeft, WriteLeft, textWords, XmlLeft}
 
 -- ---- the slice reader
 
@@ -83,4 +87,17 @@ write-left answer answer₁ output pool q y e f = record {
   answer-is = e ∙ ap (λ (z : Writer.Left). answered answer (replyWords (z .reply))) f;
   output-is = ap (λ (z : Writer.Left). z .lent .output) f;
   pool-is = ap (λ (z : Writer.Left). z .lent .table) f;
+}
+
+-- ---- XML text
+
+output-of : (output : List ℕ) (p : Printed) → output ≡ printedOf output p .out
+output-of output (Printed.Text n) = refl
+output-of output (Printed.Refused r) = refl
+
+pub xml-left : (answer answer₁ output : List ℕ) (p : Printed) (y : Xml.Left)
+    → ((o : List ℕ) → answer₁ ≡ answered answer (textWords (printedOf o p .reply))) → printedOf output p ≡ y → XmlLeft answer answer₁ output y
+xml-left answer answer₁ output p y e f = record {
+  answer-is = e output ∙ ap (λ (z : Xml.Left). answered answer (textWords (z .reply))) f;
+  output-is = output-of output p ∙ ap (λ (z : Xml.Left). z .out) f;
 }

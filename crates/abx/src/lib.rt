@@ -13,7 +13,9 @@ ghost use Rattle.slice_spec.specs.Slice as Slice;
 ghost use Rattle.stream.specs.Answers.{lend};
 ghost use Rattle.stream_spec.specs.Stream as Chunks;
 ghost use Rattle.writer_spec.specs.Writer as Spec;
-ghost use Rattle.abx_words.specs.Words.{answered, createdWords, NextLeft, streamIn, StreamLeft, opened, OpenLeft, WriteLeft};
+ghost use Rattle.xml_spec.specs.ToXml.{toXml};
+ghost use Rattle.xml_spec.specs.Rows.{rowToXml};
+ghost use Rattle.abx_words.specs.Words.{answered, createdWords, NextLeft, streamIn, StreamLeft, opened, OpenLeft, WriteLeft, XmlLeft};
 
 // Whether s is well-formed UTF-8.
 #[no_mangle]
@@ -162,4 +164,35 @@ pub extern "C" fn abx_write_events<'a>(
         answer,
         writer::write_events(w, first, second, rows, output, pool),
     )
+}
+
+// ---- XML text
+
+// 0 and the bytes of text; or 2, number and detail.
+#[no_mangle]
+pub extern "C" fn abx_to_xml<'a>(
+    first: &'a [u8],
+    second: &'a [u8],
+    rows: &[u32],
+    output: &mut [u8],
+    answer: &mut [usize],
+)
+    ensures { λ _. ⌜ XmlLeft (now (answer .entry)) (now (answer .exit)) (now (output .exit)) (toXml (now (first .entry)) (now (second .entry)) (now (rows .entry)) (now (output .entry))) ⌝ }
+{
+    xml_words::tell_printed(answer, xml::to_xml(first, second, rows, output))
+}
+
+// The same of one row of a list, counted from 0.
+#[no_mangle]
+pub extern "C" fn abx_row_to_xml<'a>(
+    row: usize,
+    first: &'a [u8],
+    second: &'a [u8],
+    rows: &[u32],
+    output: &mut [u8],
+    answer: &mut [usize],
+)
+    ensures { λ _. ⌜ XmlLeft (now (answer .entry)) (now (answer .exit)) (now (output .exit)) (rowToXml (now (first .entry)) (now (second .entry)) (now (rows .entry)) row (now (output .entry))) ⌝ }
+{
+    xml_words::tell_printed(answer, xml::row_to_xml(first, second, rows, row, output))
 }

@@ -10,6 +10,7 @@ use Rattle.wire.specs.Refusal.{badState}
 use Rattle.slice_spec.specs.Slice as Slice
 use Rattle.stream_spec.specs.Stream as Chunks
 use Rattle.writer_spec.specs.Writer as Writer
+use Rattle.xml_spec.specs.ToXml as Xml
 
 -- an answer, where there is room for four words
 unfoldable pub answered : List ℕ → List ℕ → List ℕ
@@ -115,3 +116,14 @@ pub record WriteLeft (answer answer′ output pool : List ℕ) (x : Writer.Left)
   pub answer-is : answer′ ≡ answered answer (replyWords (x .reply))
   pub output-is : output ≡ x .lent .output
   pub pool-is : pool ≡ x .lent .table
+
+-- ---- XML text
+
+abbrev pub textWords : Xml.Reply → List ℕ
+textWords (Xml.wrote n) = 0 ∷ n ∷ 0 ∷ 0 ∷ []
+textWords (Xml.refused n d) = 2 ∷ n ∷ d ∷ 0 ∷ []
+
+-- what a text writer's call leaves: the answer's words and the output
+pub record XmlLeft (answer answer′ output : List ℕ) (x : Xml.Left) : Type 0 where
+  pub answer-is : answer′ ≡ answered answer (textWords (x .reply))
+  pub output-is : output ≡ x .out

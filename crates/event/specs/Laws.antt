@@ -1,11 +1,13 @@
--- What callers may cite of equal bytes and equal rows: `same` and `sameRow` decide equality.
-use mathlib.Core.Bool.{Bool, true, false, _&&_, false≢true}
+-- What callers may cite of equal bytes and equal rows (`same` and `sameRow` decide equality), and of spans.
+use mathlib.Core.Bool.{Bool, true, false, _&&_, cond, false≢true}
 use mathlib.Core.List.{List, [], _∷_}
 use mathlib.Core.Path.{_≡_, refl, ap}
-use Prim.Native.Nat.{ℕ}
+use Prim.Native.Nat.{ℕ, _+_, _≤_}
+use native.Mathlib.Omega.{arith}
 use borrow.Author.Tests.{eqb-true, eq-eqb}
-use lib.Dec.{eqb}
-use Rattle.event.specs.Span.{same}
+use lib.Dec.{leb, eqb}
+use lib.ListN.{length, take, drop, length-take}
+use Rattle.event.specs.Span.{part, span, same}
 use Rattle.event.specs.Row.{Value, nothing, bytes, word, pair, Row, sameValue, sameRow}
 
 -- both sides of a conjunction that holds
@@ -72,3 +74,23 @@ same-row-eq r q h =
     let name : r .name ≡ q .name = same-eq (r .name) (q .name) (rest .0) in
     let value : r .value ≡ q .value = same-value-eq (r .value) (q .value) (rest .1) in
     λ i. record { kind = kind i; name = name i; type = type i; value = value i }
+
+-- ---- the length of a span
+
+part-short : (store : List ℕ) (start len : ℕ) → length (part store start len) ≤ len
+unfolding part
+part-short store start len = go (leb (start + len) (length store))
+  where
+    go : (t : Bool) → length (cond t (take len (drop start store)) []) ≤ len
+    go true = simp length-take (omega arith)
+    go false = omega arith
+
+-- no span is longer than its length word says
+pub span-short : (first second : List ℕ) (source start len : ℕ) → length (span first second source start len) ≤ len
+unfolding span
+span-short first second source start len = go (eqb source 0) (eqb source 1)
+  where
+    go : (s t : Bool) → length (cond s (part first start len) (cond t (part second start len) [])) ≤ len
+    go true t = part-short first start len
+    go false true = part-short second start len
+    go false false = omega arith

@@ -3,11 +3,12 @@ use wire::Command;
 use wire::Type;
 ghost use mathlib.Core.Bool.{cond};
 ghost use mathlib.Core.Path.{_≡_};
-ghost use Prim.Native.Nat.{_+_, _/_, _≤_};
+ghost use Prim.Native.Nat.{_+_, _*_, _/_, _≤_};
 ghost use lib.ListN.{length, getD};
 ghost use Rattle.event.specs.Span.{spanIn};
 ghost use Rattle.event.specs.Row.{shape};
 ghost use Rattle.event.specs.Words.{oneOf, zeros, valueForms, attributeForms, rowForms, rowFormsIn, opens, single, listForms, eventForms};
+ghost use Rattle.forms.specs.Placed.{insideAt, rowFormsAt};
 
 // One of two answers, without a branch: a list's rows come in no order that a branch could be guessed by.
 fn choose(first: bool, yes: bool, no: bool) -> bool
@@ -142,6 +143,28 @@ pub fn list_forms(first: &[u8], second: &[u8], rows: &[u32]) -> bool
         at += 8;
     }
     true
+}
+
+// Whether an attribute may stand at this row.
+fn inside_at(rows: &[u32], row: usize) -> bool
+    requires { ⌜ 8 * row ≤ length (now rows) ⌝ }
+    ensures { λ r. ⌜ r ≡ insideAt (now (rows .entry)) row ⌝ }
+{
+    if row == 0 {
+        return false;
+    }
+    opens_attributes(rows[8 * (row - 1)])
+}
+
+// Whether there is a row of this number, counted from 0, and it forms where it stands.
+pub fn row_forms_at(first: &[u8], second: &[u8], rows: &[u32], row: usize) -> bool
+    ensures { λ r. ⌜ r ≡ rowFormsAt (now (first .entry)) (now (second .entry)) (now (rows .entry)) row ⌝ }
+{
+    if row < rows.len() / 8 {
+        let at = 8 * row;
+        return row_forms_in(first, second, inside_at(rows, row), &rows[at..]);
+    }
+    false
 }
 
 // Whether whole rows are one event's: a row, and after it attributes alone.

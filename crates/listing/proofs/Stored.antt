@@ -1,110 +1,52 @@
--- Texts stored one after another, and the answer when all are.
+-- Texts put one after another, and the answer when all are.
 use mathlib.Core.List.{List, [], _∷_, _++_}
-use mathlib.Core.Path.{_≡_, refl, sym, ap, _∙_}
-use Prim.Native.Nat.{ℕ, _+_, _*_, _/_, _%_, _≤_, _<_}
+use mathlib.Core.Path.{_≡_, ap, _∙_}
+use Prim.Native.Nat.{ℕ, _≤_, _<_}
 use native.Mathlib.Nat.{zero-add}
-use native.Mathlib.Numerals.{add-one}
 use native.Mathlib.Omega.{arith}
 use borrow.Author.Tests.{le-leb, lt-leb}
-use lib.ListN.{length, getD, set, take, drop, length-append}
-use lib.Seq.{sets, sets-eq, take-suc, length-take-le}
+use lib.ListN.{length, drop}
+use lib.Seq.{sets-eq}
 use Rattle.wire.specs.Refusal.{outputFull}
 use Rattle.event.specs.Row.{hasName}
-use Rattle.grammar.specs.Stores.{sets-append}
-use Rattle.listing.specs.Text.{newline, space, digit, hex, decimal, field}
+use Rattle.text.specs.Put.{Put, put-both, after-within}
+use Rattle.listing.specs.Text.{newline, space, decimal, field}
 use Rattle.listing.specs.Line.{wrote, refused, typeText, columns, endWord, endLine, refusedWord, refusedLine, put}
-use Rattle.listing.proofs.Texts.{decimal-one, decimal-more, hex-length, hex-append}
-
--- a text stored from a place on, and the place after it
-pub record Stored (o : List ℕ) (at : ℕ) (text o′ : List ℕ) (p : ℕ) : Type 0 where
-  pub bytes : o′ ≡ sets o at text
-  pub place : p ≡ at + length text
-
--- a text stored after another
-pub and-then : {o o₁ o₂ a b : List ℕ} {at p q : ℕ} → Stored o at a o₁ p → Stored o₁ p b o₂ q → Stored o at (a ++ b) o₂ q
-and-then {o} {o₁} {o₂} {a} {b} {at} {p} {q} s t =
-    record {
-      bytes = t .bytes ∙ rw (s .bytes, s .place) (sym (sets-append o at a b));
-      place = omega (arith, length-append a b, s .place, t .place);
-    }
-
--- the hex digits of a byte more
-pub hexed : (o out s : List ℕ) (at i p high low : ℕ) → i < length s → out ≡ sets o at (hex (take i s)) → p ≡ at + i * 2
-    → high ≡ digit (getD s i 0 / 16) → low ≡ digit (getD s i 0 % 16) → set (set out p high) (p + 1) low ≡ sets o at (hex (take (i + 1) s))
-unfolding hex
-hexed o out s at i p high low h e q f g =
-    let x = getD s i 0 in
-    let n : length (hex (take i s)) ≡ i * 2 = hex-length (take i s) ∙ ap (λ (k : ℕ). k * 2) (length-take-le i s (omega arith)) in
-    let before : Stored o at (hex (take i s)) out p = record { bytes = e; place = q ∙ ap (λ (k : ℕ). at + k) (sym n) } in
-    let now : Stored out p (high ∷ low ∷ []) (set (set out p high) (p + 1) low) (p + 2) =
-    record { bytes = ap (λ (k : ℕ). set (set out p high) k low) (add-one p); place = refl }
-    in
-    let more : hex (take (i + 1) s) ≡ hex (take i s) ++ (high ∷ low ∷ []) =
-    ap (λ (k : ℕ). hex (take k s)) (add-one i) ∙ ap hex (take-suc s i 0 h) ∙ hex-append (take i s) (x ∷ []) ∙ rw (f, g)
-    in
-    and-then before now .bytes ∙ ap (sets o at) (sym more)
-
--- ---- a number's digits
-
-pub one-digit : (n : ℕ) (o : List ℕ) (at x : ℕ) → n < 10 → x ≡ digit n → Stored o at (decimal n) (set o at x) (at + 1)
-one-digit n o at x h e =
-    record { bytes = rw e (ap (sets o at) (sym (decimal-one n h))); place = ap (λ (s : List ℕ). at + length s) (sym (decimal-one n h)) }
-
-pub last-digit : (n : ℕ) (o o₁ : List ℕ) (at p x : ℕ) → 10 ≤ n → Stored o at (decimal (n / 10)) o₁ p → x ≡ digit (n % 10)
-    → Stored o at (decimal n) (set o₁ p x) (p + 1)
-last-digit n o o₁ at p x h s e =
-    let now : Stored o₁ p (digit (n % 10) ∷ []) (set o₁ p x) (p + 1) = record { bytes = rw e; place = refl } in
-    let all = and-then s now in
-    record {
-      bytes = all .bytes ∙ ap (sets o at) (sym (decimal-more n h));
-      place = all .place ∙ ap (λ (t : List ℕ). at + length t) (sym (decimal-more n h));
-    }
-
--- ---- columns
-
-pub retold : (o o₁ : List ℕ) (at p : ℕ) (a b : List ℕ) → a ≡ b → Stored o at a o₁ p → Stored o at b o₁ p
-retold o o₁ at p a b e s = record { bytes = s .bytes ∙ ap (sets o at) e; place = s .place ∙ ap (λ (t : List ℕ). at + length t) e }
 
 -- a text after a space
-pub spaced : (o o₁ : List ℕ) (at p : ℕ) (a b : List ℕ) → a ≡ b → o₁ ≡ sets (set o at space) (at + 1) a → p ≡ at + 1 + length a → Stored o at (space ∷ b) o₁ p
-spaced o o₁ at p a b e s l =
-    retold o o₁ at p (space ∷ a) (space ∷ b) (ap (λ (t : List ℕ). space ∷ t) e)
-    (record { bytes = s ∙ ap (λ (k : ℕ). sets (set o at space) k a) (add-one at); place = omega arith })
+pub spaced : (o o₁ o₂ : List ℕ) (at p q : ℕ) (a b : List ℕ) → Put o at (space ∷ []) o₁ p → Put o₁ p a o₂ q → b ≡ a → Put o at (space ∷ b) o₂ q
+spaced o o₁ o₂ at p q a b s t e = rw e (put-both o at (space ∷ []) a o₁ o₂ p q s t)
 
-pub columns-stored : (kind type : ℕ) (name value o o₁ o₂ o₃ o₄ : List ℕ) (p q r s : ℕ) → Stored o 0 (decimal kind) o₁ p
-    → Stored o₁ p (space ∷ field (hasName kind) name) o₂ q → Stored o₂ q (space ∷ typeText kind type) o₃ r → Stored o₃ r (space ∷ value) o₄ s
-    → set o₄ s newline ≡ sets o 0 (columns kind name type value)
+pub columns-put : (kind type : ℕ) (name value o o₁ o₂ o₃ o₄ o₅ : List ℕ) (p q r s t : ℕ) → Put o 0 (decimal kind) o₁ p
+    → Put o₁ p (space ∷ field (hasName kind) name) o₂ q → Put o₂ q (space ∷ typeText kind type) o₃ r → Put o₃ r (space ∷ value) o₄ s
+    → Put o₄ s (newline ∷ []) o₅ t → Put o 0 (columns kind name type value) o₅ t
 unfolding columns
-columns-stored kind type name value o o₁ o₂ o₃ o₄ p q r s a b c d =
-    let last : Stored o₄ s (newline ∷ []) (set o₄ s newline) (s + 1) = record { bytes = refl; place = refl } in
-    and-then (and-then (and-then (and-then a b) c) d) last .bytes
+columns-put kind type name value o o₁ o₂ o₃ o₄ o₅ p q r s t a b c d e =
+    put-both o 0 _ _ o₄ o₅ s t (put-both o 0 _ _ o₃ o₄ r s (put-both o 0 _ _ o₂ o₃ q r (put-both o 0 _ _ o₁ o₂ p q a b) c) d) e
 
 -- ---- the last lines
 
-pub end-stored : (events : ℕ) (o o₁ o₂ : List ℕ) (p : ℕ) → o₁ ≡ sets o 0 endWord → Stored o₁ 4 (decimal events) o₂ p → set o₂ p newline ≡ sets o 0 (endLine events)
+pub end-put : (events : ℕ) (o o₁ o₂ o₃ : List ℕ) (p q r : ℕ) → Put o 0 endWord o₁ p → Put o₁ p (decimal events) o₂ q → Put o₂ q (newline ∷ []) o₃ r
+    → Put o 0 (endLine events) o₃ r
 unfolding endLine
-end-stored events o o₁ o₂ p e s =
-    let word : Stored o 0 endWord o₁ 4 = record { bytes = e; place = refl } in
-    let last : Stored o₂ p (newline ∷ []) (set o₂ p newline) (p + 1) = record { bytes = refl; place = refl } in
-    and-then (and-then word s) last .bytes
+end-put events o o₁ o₂ o₃ p q r a b c = put-both o 0 _ _ o₂ o₃ q r (put-both o 0 _ _ o₁ o₂ p q a b) c
 
-pub refused-stored : (number detail : ℕ) (o o₁ o₂ o₃ : List ℕ) (p q : ℕ) → o₁ ≡ sets o 0 refusedWord → Stored o₁ 8 (decimal number) o₂ p
-    → o₃ ≡ sets (set o₂ p space) (p + 1) (decimal detail) → q ≡ p + 1 + length (decimal detail)
-    → set o₃ q newline ≡ sets o 0 (refusedLine number detail)
+pub refused-put : (number detail : ℕ) (o o₁ o₂ o₃ o₄ o₅ : List ℕ) (p q r s t : ℕ) → Put o 0 refusedWord o₁ p → Put o₁ p (decimal number) o₂ q
+    → Put o₂ q (space ∷ []) o₃ r → Put o₃ r (decimal detail) o₄ s → Put o₄ s (newline ∷ []) o₅ t → Put o 0 (refusedLine number detail) o₅ t
 unfolding refusedLine
-refused-stored number detail o o₁ o₂ o₃ p q e s d l =
-    let word : Stored o 0 refusedWord o₁ 8 = record { bytes = e; place = refl } in
-    let last : Stored o₃ q (newline ∷ []) (set o₃ q newline) (q + 1) = record { bytes = refl; place = refl } in
-    and-then (and-then (and-then word s) (spaced o₂ o₃ p q (decimal detail) (decimal detail) refl d l)) last .bytes
+refused-put number detail o o₁ o₂ o₃ o₄ o₅ p q r s t a b c d e =
+    put-both o 0 _ _ o₄ o₅ s t (put-both o 0 _ _ o₂ o₄ q s (put-both o 0 _ _ o₁ o₂ p q a b) (put-both o₂ q _ _ o₃ o₄ r s c d)) e
 
 -- ---- the answer
 
-pub put-fits : (text out out′ : List ℕ) (n : ℕ) → length text ≤ length out → n ≡ length text → out′ ≡ sets out 0 text
-    → record { reply = wrote n; out = out′ } ≡ put text out
+pub put-fits : (text out out′ : List ℕ) (n : ℕ) → length text ≤ length out → Put out 0 text out′ n → record { reply = wrote n; out = out′ } ≡ put text out
 unfolding put
-put-fits text out out′ n h e s =
-    let all : out′ ≡ text ++ drop (length text) out = s ∙ sets-eq text out 0 (omega arith) ∙ ap (λ (k : ℕ). text ++ drop k out) (zero-add (length text)) in
-    rw (le-leb (length text) (length out) h, e, all)
+put-fits text out out′ n h p =
+    let all : out′ ≡ text ++ drop (length text) out =
+    p .text ∙ sets-eq text out 0 (omega arith) ∙ ap (λ (k : ℕ). text ++ drop k out) (zero-add (length text))
+    in
+    let whole : n ≡ length text = p .place ∙ after-within (length out) 0 (length text) (omega arith) ∙ zero-add (length text) in
+    rw (le-leb (length text) (length out) h, whole, all)
 
 pub put-short : (text out : List ℕ) (number detail : ℕ) → length out < length text → number ≡ outputFull → detail ≡ 0
     → record { reply = refused number detail; out = out } ≡ put text out

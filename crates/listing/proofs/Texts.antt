@@ -2,76 +2,35 @@
 use mathlib.Core.Bool.{Bool, true, false, cond}
 use mathlib.Core.List.{List, [], _∷_, _++_}
 use mathlib.Core.Logic.{_≢_}
-use mathlib.Core.Path.{_≡_, refl, ap, _∙_}
-use Prim.Native.Nat.{ℕ, zero, suc, _+_, _*_, _/_, _%_, _≤_, _<_}
+use mathlib.Core.Path.{_≡_, refl, sym, ap, _∙_}
+use Prim.Native.Nat.{ℕ, _+_, _*_, _-_, _/_, _%_, _≤_, _<_}
 use native.Mathlib.Nat.{not-suc-le-zero, suc-ne-zero}
 use native.Mathlib.Omega.{arith}
-use borrow.Author.Tests.{lt-ltb, le-ltb, ltb-true, ltb-false, eq-eqb, ne-eqb, eqb-true, eqb-false}
-use lib.Dec.{leb, ltb, eqb}
-use lib.ListN.{length, getD, drop, length-append, length-take}
+use borrow.Author.Tests.{eq-eqb, ne-eqb}
+use lib.ListN.{length, getD, take, drop, length-append, length-drop}
+use lib.Seq.{take-all}
 use Rattle.wire.specs.Header.{be32}
 use Rattle.wire.specs.Token.{attribute}
-use Rattle.event.specs.Span.{part, span}
+use Rattle.event.specs.Span.{span}
 use Rattle.event.specs.Row.{hasName, shape, valueAt, rowAt}
 use Rattle.event.specs.declared.Shape.{Shape}
 use Rattle.event.specs.declared.Shape.the-variants as Shape
-use Rattle.grammar.specs.Choice.{byTest}
-use Rattle.listing.specs.Text.{newline, space, dash, equals, digit, hex, decimalIn, decimal, field}
+use Rattle.text.specs.Numerals.{digit, hex}
+use Rattle.text.specs.Laws.{numeral-one, numeral-more, hex-length}
+use Rattle.listing.specs.Text.{newline, space, dash, equals, decimal, field}
 use Rattle.listing.specs.Line.{typeText, valueText, columns, line, endWord, endLine, refusedWord, refusedLine, Left, put}
 
--- ---- decimal numbers
+-- how many digits there are, where they end a list of 20
+pub digits-long : (bytes : List ℕ) (start n : ℕ) → drop start bytes ≡ decimal n → length bytes ≡ 20 → 20 - start ≡ length (decimal n)
+digits-long bytes start n e l = sym (ap (λ (k : ℕ). k - start) l) ∙ sym (length-drop start bytes) ∙ ap length e
 
--- any number of digits large enough gives the same
-enough : (j k n : ℕ) → n < j → n < k → decimalIn j n ≡ decimalIn k n
-unfolding decimalIn
-enough zero k n h g = absurd (not-suc-le-zero h)
-enough (suc j) zero n h g = absurd (not-suc-le-zero g)
-enough (suc j) (suc k) n h g =
-    byTest (ltb n 10)
-    (λ b. rw b)
-    (λ b. let m = ltb-false n 10 b in rw (b, enough j k (n / 10) (omega arith) (omega arith)))
+pub digits-part : (bytes : List ℕ) (start n : ℕ) → drop start bytes ≡ decimal n → length bytes ≡ 20 → take (20 - start) (drop start bytes) ≡ decimal n
+digits-part bytes start n e l = take-all (20 - start) (drop start bytes) (omega (arith, length-drop start bytes)) ∙ e
 
-pub decimal-one : (n : ℕ) → n < 10 → decimal n ≡ digit n ∷ []
-unfolding decimal decimalIn
-decimal-one n h = rw (lt-ltb n 10 h)
+pub two-digits : (n : ℕ) → 10 ≤ n → n < 100 → decimal n ≡ digit (n / 10) ∷ digit (n % 10) ∷ []
+two-digits n h k = numeral-more 10 n (omega arith) h ∙ ap (λ (t : List ℕ). t ++ (digit (n % 10) ∷ [])) (numeral-one 10 (n / 10) (omega arith))
 
-unrolled : (k n : ℕ) → 10 ≤ n → decimalIn (suc k) n ≡ decimalIn k (n / 10) ++ (digit (n % 10) ∷ [])
-unfolding decimalIn
-unrolled k n h = rw (le-ltb n 10 h)
-
-pub decimal-more : (n : ℕ) → 10 ≤ n → decimal n ≡ decimal (n / 10) ++ (digit (n % 10) ∷ [])
-unfolding decimal
-decimal-more n h = unrolled n n h ∙ rw (enough n (suc (n / 10)) (n / 10) (omega arith) (omega arith))
-
-pub decimal-length : (n : ℕ) → 10 ≤ n → length (decimal n) ≡ length (decimal (n / 10)) + 1
-decimal-length n h = ap length (decimal-more n h) ∙ length-append (decimal (n / 10)) (digit (n % 10) ∷ [])
-
--- a bound that keeps sums of lengths small
-short-in : (k n : ℕ) → n < k → length (decimal n) ≤ n / 10 + 1
-short-in zero n h = absurd (not-suc-le-zero h)
-short-in (suc k) n h =
-    byTest (ltb n 10)
-    (λ b. let e : length (decimal n) ≡ 1 = ap length (decimal-one n (ltb-true n 10 b)) in omega arith)
-    (λ b.
-    let m = ltb-false n 10 b in
-    let e = decimal-length n m in
-    let s = short-in k (n / 10) (omega arith) in
-    omega arith)
-
-pub decimal-short : (n : ℕ) → length (decimal n) ≤ n / 10 + 1
-decimal-short n = short-in (suc n) n (omega arith)
-
--- ---- bytes
-
-pub hex-length : (s : List ℕ) → length (hex s) ≡ length s * 2
-unfolding hex
-hex-length [] = refl
-hex-length (b ∷ s) = omega (arith, hex-length s)
-
-pub hex-append : (s t : List ℕ) → hex (s ++ t) ≡ hex s ++ hex t
-unfolding hex
-hex-append [] t = refl
-hex-append (b ∷ s) t = rw (hex-append s t)
+-- ---- names and values
 
 pub field-absent : (b : Bool) (s : List ℕ) → b ≡ false → field b s ≡ dash ∷ []
 unfolding field
@@ -119,18 +78,6 @@ refused-length number detail =
     )
 
 -- ---- columns
-
--- a span is no longer than it says
-part-short : (s : List ℕ) (start len : ℕ) → length (part s start len) ≤ len
-unfolding part
-part-short s start len =
-    byTest (leb (start + len) (length s)) (λ b. rw b (omega (arith, length-take len (drop start s)))) (λ b. rw b (omega arith))
-
-pub span-short : (first second : List ℕ) (source start len : ℕ) → length (span first second source start len) ≤ len
-unfolding span
-span-short first second source start len =
-    byTest (eqb source 0) (λ b. rw b (part-short first start len))
-    (λ b. byTest (eqb source 1) (λ d. rw (b, d) (part-short second start len)) (λ d. rw (b, d) (omega arith)))
 
 named : (b : Bool) (s : List ℕ) → field b (cond b s []) ≡ field b s
 unfolding field
@@ -188,12 +135,6 @@ type-shown kind type e = rw (eq-eqb kind attribute e)
 pub type-hidden : (kind type : ℕ) → kind ≢ attribute → typeText kind type ≡ dash ∷ []
 unfolding typeText
 type-hidden kind type e = rw (ne-eqb kind attribute e)
-
-pub type-short : (kind type : ℕ) → length (typeText kind type) ≤ type + 1
-type-short kind type =
-    byTest (eqb kind attribute)
-    (λ b. let e = ap length (type-shown kind type (eqb-true kind attribute b)) in omega (arith, decimal-short type))
-    (λ b. let e = ap length (type-hidden kind type (eqb-false kind attribute b)) in omega arith)
 
 pub columns-length : (kind type : ℕ) (name value : List ℕ)
     → length (columns kind name type value)

@@ -9,7 +9,7 @@ use Rattle.wire.specs.Token.{attribute}
 use Rattle.wire.specs.Refusal.{outputFull, notRows}
 use Rattle.event.specs.Row.{Row, hasName, rowAt}
 use Rattle.event.specs.Row as Row
-use Rattle.listing.specs.Ascii.{ascii}
+use Rattle.text.specs.Ascii.{ascii}
 use Rattle.listing.specs.Text.{newline, space, dash, decimal, field}
 
 -- ---- the text

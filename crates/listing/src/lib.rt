@@ -2,71 +2,51 @@
 use event::Shape;
 use wire::Command;
 use wire::Refusal;
-ghost use mathlib.Core.List.{_∷_, _++_};
+ghost use mathlib.Core.List.{[], _∷_, _++_};
 ghost use mathlib.Core.Path.{_≡_};
-ghost use Prim.Native.Nat.{_+_, _*_, _≤_, _<_};
+ghost use Prim.Native.Nat.{_≤_, _<_};
 ghost use lib.ListN.{length};
-ghost use lib.Seq.{sets};
+ghost use Rattle.text.specs.Numerals.{digit};
+ghost use Rattle.text.specs.Put.{Put};
 ghost use Rattle.wire.specs.Header.{be32};
 ghost use Rattle.wire.specs.Refusal.{outputFull};
 ghost use Rattle.event.specs.Row.{rowAt};
-ghost use Rattle.listing.specs.Text.{space, digit, hex, decimal, field};
+ghost use Rattle.listing.specs.Text.{space, decimal, field};
 ghost use Rattle.listing.specs.Line.{typeText, columns, endLine, refusedLine, line, put, putRow};
 ghost use Rattle.listing.specs.Answers.{linedOf};
 
-// ---- characters
-
-// The character of a digit, hex digits in lower case.
-fn digit(d: u8) -> u8
-    requires { ⌜ d < 16 ⌝ }
-    ensures { λ r. ⌜ r ≡ digit d ⌝ }
-{
-    if d < 10 {
-        return b'0' + d;
-    }
-    b'a' - 10 + d
-}
-
-// Two digits for each byte.
-fn put_hex(s: &[u8], out: &mut [u8], at: usize)
-    requires { ⌜ at + length (now s) * 2 ≤ length (now out) ⌝ }
-    ensures { λ _. ⌜ now (out .exit) ≡ sets (now (out .entry)) at (hex (now (s .entry))) ⌝ }
-{
-    let mut i = 0;
-    while i < s.len() {
-        let place = at + i * 2;
-        out[place] = digit(s[i] / 16);
-        out[place + 1] = digit(s[i] % 16);
-        i += 1;
-    }
-}
+// ---- columns
 
 // How many digits a number has.
-fn decimal_len(n: usize) -> usize
-    ensures { λ r. ⌜ r ≡ length (decimal n) ⌝ }
+fn decimal_len(n: u64) -> usize
+    ensures { λ r. ⌜ (r ≡ length (decimal n)) × (r ≤ 20) ⌝ }
 {
-    if n < 10 {
-        return 1;
-    }
-    decimal_len(n / 10) + 1
+    20 - text::decimal(n).start
 }
 
-// A number's digits; the place after them.
-fn put_decimal(n: usize, out: &mut [u8], at: usize) -> usize
-    requires { ⌜ at + length (decimal n) ≤ length (now out) ⌝ }
-    ensures bytes { λ r. ⌜ now (out .exit) ≡ sets (now (out .entry)) at (decimal n) ⌝ }
-    ensures place { λ r. ⌜ r ≡ at + length (decimal n) ⌝ }
+fn put_digit(d: u64, out: &mut [u8], at: usize) -> usize
+    requires { ⌜ d < 10 ⌝ }
+    ensures { λ r. ⌜ Put (now (out .entry)) at (digit d ∷ []) (now (out .exit)) r ⌝ }
 {
-    if n < 10 {
-        out[at] = digit(n as u8);
-        return at + 1;
-    }
-    let end = put_decimal(n / 10, out, at);
-    out[end] = digit((n % 10) as u8);
-    end + 1
+    text::put_byte(b'0' + d as u8, out, at)
 }
 
-// ---- columns
+// A number's digits. Kinds and types have one or two.
+fn put_decimal(n: u64, out: &mut [u8], at: usize) -> usize
+    ensures { λ r. ⌜ Put (now (out .entry)) at (decimal n) (now (out .exit)) r ⌝ }
+{
+    if n < 10 {
+        return put_digit(n, out, at);
+    }
+    if n < 100 {
+        let place = put_digit(n / 10, out, at);
+        return put_digit(n % 10, out, place);
+    }
+    let numeral = text::decimal(n);
+    let bytes = numeral.bytes;
+    let start = numeral.start;
+    text::put(&bytes[start..], out, at)
+}
 
 // The length of a name or value in the listing. Its bytes come from a span, so that twice their number fits.
 fn field_len(present: bool, s: &[u8]) -> usize
@@ -82,46 +62,38 @@ fn field_len(present: bool, s: &[u8]) -> usize
     1
 }
 
-// A space and a name or value; the place after them.
+// A space and a name or value.
 fn put_field(present: bool, s: &[u8], out: &mut [u8], at: usize) -> usize
-    requires { ⌜ at + length (space ∷ field present (now s)) ≤ length (now out) ⌝ }
-    ensures bytes { λ r. ⌜ now (out .exit) ≡ sets (now (out .entry)) at (space ∷ field present (now (s .entry))) ⌝ }
-    ensures place { λ r. ⌜ r ≡ at + length (space ∷ field present (now (s .entry))) ⌝ }
+    ensures { λ r. ⌜ Put (now (out .entry)) at (space ∷ field present (now (s .entry))) (now (out .exit)) r ⌝ }
 {
-    out[at] = b' ';
+    let place = text::put_byte(b' ', out, at);
     if present {
         if s.len() == 0 {
-            out[at + 1] = b'=';
-            return at + 2;
+            return text::put_byte(b'=', out, place);
         }
-        put_hex(s, out, at + 1);
-        return at + 1 + s.len() * 2;
+        return text::put_hex(s, out, place);
     }
-    out[at + 1] = b'-';
-    at + 2
+    text::put_byte(b'-', out, place)
 }
 
 fn type_len(kind: u32, type_: u32) -> usize
-    ensures { λ r. ⌜ r ≡ length (typeText kind «type_») ⌝ }
+    ensures { λ r. ⌜ (r ≡ length (typeText kind «type_»)) × (r ≤ 20) ⌝ }
 {
     if kind == Command::ATTRIBUTE {
-        return decimal_len(type_ as usize);
+        return decimal_len(type_ as u64);
     }
     1
 }
 
-// A space and a type; the place after them.
+// A space and a type.
 fn put_type(kind: u32, type_: u32, out: &mut [u8], at: usize) -> usize
-    requires { ⌜ at + length (space ∷ typeText kind «type_») ≤ length (now out) ⌝ }
-    ensures bytes { λ r. ⌜ now (out .exit) ≡ sets (now (out .entry)) at (space ∷ typeText kind «type_») ⌝ }
-    ensures place { λ r. ⌜ r ≡ at + length (space ∷ typeText kind «type_») ⌝ }
+    ensures { λ r. ⌜ Put (now (out .entry)) at (space ∷ typeText kind «type_») (now (out .exit)) r ⌝ }
 {
-    out[at] = b' ';
+    let place = text::put_byte(b' ', out, at);
     if kind == Command::ATTRIBUTE {
-        return put_decimal(type_ as usize, out, at + 1);
+        return put_decimal(type_ as u64, out, place);
     }
-    out[at + 1] = b'-';
-    at + 2
+    text::put_byte(b'-', out, place)
 }
 
 // ---- lines
@@ -139,22 +111,28 @@ fn too_short() -> Refusal
 }
 
 // The four columns and the line's end.
-fn put_columns(kind: u32, name: &[u8], type_: u32, valued: bool, value: &[u8], out: &mut [u8])
-    requires { ⌜ length (columns kind (now name) «type_» (field valued (now value))) ≤ length (now out) ⌝ }
-    ensures { λ _. ⌜ now (out .exit) ≡ sets (now (out .entry)) 0 (columns kind (now (name .entry)) «type_» (field valued (now (value .entry)))) ⌝ }
+fn put_columns(
+    kind: u32,
+    name: &[u8],
+    type_: u32,
+    valued: bool,
+    value: &[u8],
+    out: &mut [u8],
+) -> usize
+    ensures { λ r. ⌜ Put (now (out .entry)) 0 (columns kind (now (name .entry)) «type_» (field valued (now (value .entry)))) (now (out .exit)) r ⌝ }
 {
-    let after_kind = put_decimal(kind as usize, out, 0);
+    let after_kind = put_decimal(kind as u64, out, 0);
     let after_name = put_field(event::has_name(kind), name, out, after_kind);
     let after_type = put_type(kind, type_, out, after_name);
     let after_value = put_field(valued, value, out, after_type);
-    out[after_value] = b'\n';
+    text::put_byte(b'\n', out, after_value)
 }
 
 fn columns_len(kind: u32, name: &[u8], type_: u32, valued: bool, value: &[u8]) -> usize
     requires { ⌜ (length (now name) < 4_294_967_296) × (length (now value) < 4_294_967_296) ⌝ }
     ensures { λ r. ⌜ r ≡ length (columns kind (now (name .entry)) «type_» (field valued (now (value .entry)))) ⌝ }
 {
-    let kinds = decimal_len(kind as usize);
+    let kinds = decimal_len(kind as u64);
     let names = field_len(event::has_name(kind), name);
     let types = type_len(kind, type_);
     let values = field_len(valued, value);
@@ -170,22 +148,10 @@ fn put_line(kind: u32, name: &[u8], type_: u32, valued: bool, value: &[u8], out:
     if out.len() < len {
         return Lined::Refused(too_short());
     }
-    put_columns(kind, name, type_, valued, value, out);
-    Lined::Line(len)
+    Lined::Line(put_columns(kind, name, type_, valued, value, out))
 }
 
-// The bytes of a number on the wire.
-fn word(b: u32) -> [u8; 4]
-    ensures { λ r. ⌜ r ≡ be32 b ⌝ }
-{
-    [
-        (b / 16_777_216 % 256) as u8,
-        (b / 65_536 % 256) as u8,
-        (b / 256 % 256) as u8,
-        (b % 256) as u8,
-    ]
-}
-
+// The bytes of two numbers on the wire.
 fn pair(a: u32, b: u32) -> [u8; 8]
     ensures { λ r. ⌜ r ≡ be32 a ++ be32 b ⌝ }
 {
@@ -221,7 +187,7 @@ fn put_row<'a>(first: &'a [u8], second: &'a [u8], w: &[u32], out: &mut [u8]) -> 
             put_line(kind, name, type_, true, value, out)
         }
         Shape::Word => {
-            let value = word(w[7]);
+            let value = text::word(w[7]);
             put_line(kind, name, type_, true, &value, out)
         }
         Shape::Pair => {
@@ -254,30 +220,28 @@ pub fn line<'a>(
 pub fn end_line(events: usize, out: &mut [u8]) -> Lined
     ensures { λ r. ⌜ linedOf (now (out .exit)) r ≡ put (endLine events) (now (out .entry)) ⌝ }
 {
-    let len = decimal_len(events) + 5;
+    let len = decimal_len(events as u64) + 5;
     if out.len() < len {
         return Lined::Refused(too_short());
     }
-    byte_copy::copy(b"end ", out, 0);
-    let end = put_decimal(events, out, 4);
-    out[end] = b'\n';
-    Lined::Line(len)
+    let after_word = text::put(b"end ", out, 0);
+    let after_number = put_decimal(events as u64, out, after_word);
+    Lined::Line(text::put_byte(b'\n', out, after_number))
 }
 
 // The last line of a listing that was refused an event.
 pub fn refused_line(refusal: Refusal, out: &mut [u8]) -> Lined
     ensures { λ r. ⌜ linedOf (now (out .exit)) r ≡ put (refusedLine (refusal .number) (refusal .detail)) (now (out .entry)) ⌝ }
 {
-    let number = refusal.number as usize;
-    let detail = refusal.detail as usize;
+    let number = refusal.number as u64;
+    let detail = refusal.detail as u64;
     let len = decimal_len(number) + decimal_len(detail) + 10;
     if out.len() < len {
         return Lined::Refused(too_short());
     }
-    byte_copy::copy(b"refused ", out, 0);
-    let after = put_decimal(number, out, 8);
-    out[after] = b' ';
-    let end = put_decimal(detail, out, after + 1);
-    out[end] = b'\n';
-    Lined::Line(len)
+    let after_word = text::put(b"refused ", out, 0);
+    let after_number = put_decimal(number, out, after_word);
+    let after_space = text::put_byte(b' ', out, after_number);
+    let after_detail = put_decimal(detail, out, after_space);
+    Lined::Line(text::put_byte(b'\n', out, after_detail))
 }

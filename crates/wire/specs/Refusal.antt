@@ -1,4 +1,4 @@
--- The numbers of the refusals: document 01, "Refusals by place". A detail is 0 unless one is named.
+-- The numbers of the refusals: document 01, "Refusals by place", to 19, and the papers of document 02 from 20 on. A detail is 0 unless one is named.
 use mathlib.Core.List.{List, [], _∷_}
 use Prim.Native.Nat.{ℕ}
 
@@ -90,7 +90,57 @@ alreadyFinished = 18
 abbrev pub badState : ℕ
 badState = 19
 
+-- ---- the papers' calls; a detail is 0
+
+-- a character outside XML 1.0's Char production, in the text writer
+abbrev pub illegalChar : ℕ
+illegalChar = 20
+
+-- the numbers from here on no call gives yet
+
+-- a part of a stored version is missing or unfit
+abbrev pub partMissing : ℕ
+partMissing = 21
+
+-- a version above the newest, or 0
+abbrev pub noSuchVersion : ℕ
+noSuchVersion = 22
+
+-- too few unused blocks at the end of a store of versions, or no number left for one more
+abbrev pub storeFull : ℕ
+storeFull = 23
+
+-- an exercise of over 1,000 events
+abbrev pub exerciseTooLong : ℕ
+exerciseTooLong = 24
+
+-- the event passes its caller's limit
+abbrev pub callerLimit : ℕ
+callerLimit = 25
+
+-- a token table of another length, or that breaks the tables' rule
+abbrev pub badTokenTable : ℕ
+badTokenTable = 26
+
+-- a sign-on record that lacks an Int, or whose panel's times fall
+abbrev pub badSignOn : ℕ
+badSignOn = 27
+
+-- times that may be over 60 seconds apart
+abbrev pub badTolerance : ℕ
+badTolerance = 28
+
+-- an idle limit outside 1 to 480 minutes
+abbrev pub badIdleLimit : ℕ
+badIdleLimit = 29
+
+-- a use that lacks an Int, or is out of range or out of order
+abbrev pub badUse : ℕ
+badUse = 30
+
 unfoldable pub refusals : List ℕ
 refusals =
     headerShort ∷ invalidMagic ∷ unexpectedEof ∷ stringShort ∷ bytesShort ∷ badInternedIndex ∷ invalidUtf8 ∷ unknownAttributeType ∷ unknownCommand
-    ∷ rowsFull ∷ poolFull ∷ namesFull ∷ windowFull ∷ valueTooLong ∷ outputFull ∷ notRows ∷ badSize ∷ alreadyFinished ∷ badState ∷ []
+    ∷ rowsFull ∷ poolFull ∷ namesFull ∷ windowFull ∷ valueTooLong ∷ outputFull ∷ notRows ∷ badSize ∷ alreadyFinished ∷ badState
+    ∷ illegalChar ∷ partMissing ∷ noSuchVersion ∷ storeFull ∷ exerciseTooLong ∷ callerLimit ∷ badTokenTable ∷ badSignOn ∷ badTolerance ∷ badIdleLimit
+    ∷ badUse ∷ []

@@ -189,6 +189,39 @@ impl Refusal {
     // A state's count or place, or a pool span, outside its buffer.
     pub const BAD_STATE: u32 = 19;
 
+    // A character outside XML 1.0's Char production.
+    pub const ILLEGAL_CHAR: u32 = 20;
+
+    // A part of a stored version is missing or unfit. This number and those after it no call gives yet.
+    pub const PART_MISSING: u32 = 21;
+
+    // A version above the newest, or 0.
+    pub const NO_SUCH_VERSION: u32 = 22;
+
+    // Too few unused blocks at the end of a store of versions, or no number left for one more.
+    pub const STORE_FULL: u32 = 23;
+
+    // An exercise of over 1,000 events.
+    pub const EXERCISE_TOO_LONG: u32 = 24;
+
+    // The event passes its caller's limit.
+    pub const CALLER_LIMIT: u32 = 25;
+
+    // A token table of another length, or that breaks the tables' rule.
+    pub const BAD_TOKEN_TABLE: u32 = 26;
+
+    // A sign-on record that lacks an Int, or whose panel's times fall.
+    pub const BAD_SIGN_ON: u32 = 27;
+
+    // Times that may be over 60 seconds apart.
+    pub const BAD_TOLERANCE: u32 = 28;
+
+    // An idle limit outside 1 to 480 minutes.
+    pub const BAD_IDLE_LIMIT: u32 = 29;
+
+    // A use that lacks an Int, or is out of range or out of order.
+    pub const BAD_USE: u32 = 30;
+
     // A refusal whose detail is 0.
     pub fn new(number: u32) -> Refusal
         ensures { λ r. ⌜ (r .number ≡ number) × (r .detail ≡ 0) ⌝ }
@@ -197,7 +230,7 @@ impl Refusal {
     }
 
     // All numbers, in order.
-    pub fn all() -> [u32; 19]
+    pub fn all() -> [u32; 30]
         ensures { λ r. ⌜ r ≡ refusals ⌝ }
     {
         [
@@ -220,6 +253,17 @@ impl Refusal {
             Refusal::BAD_SIZE,
             Refusal::ALREADY_FINISHED,
             Refusal::BAD_STATE,
+            Refusal::ILLEGAL_CHAR,
+            Refusal::PART_MISSING,
+            Refusal::NO_SUCH_VERSION,
+            Refusal::STORE_FULL,
+            Refusal::EXERCISE_TOO_LONG,
+            Refusal::CALLER_LIMIT,
+            Refusal::BAD_TOKEN_TABLE,
+            Refusal::BAD_SIGN_ON,
+            Refusal::BAD_TOLERANCE,
+            Refusal::BAD_IDLE_LIMIT,
+            Refusal::BAD_USE,
         ]
     }
 }

@@ -1,4 +1,3 @@
-mod Spans
 mod Searches
 mod Links
 mod Values

@@ -39,7 +39,7 @@ use Rattle.writer.specs.Passes.{nameRefusal, capped, most-notes, bad, fo
 use Rattle.writer.proofs.Pools.{keep-there, keep-new, keep-full, find-below}
 use Rattle.writer.proofs.Links.{count-more, name-new}
 use Rattle.writer.proofs.Noting.{few, still, noted-kept, noted-new}
-use Rattle.writer.proofs.Spans.{span-short}
+use Rattle.event.specs.Laws.{span-short}
 use Rattle.writer.proofs.Values.{sized-length}
 
 -- a name that passes is faultless, and its search meets no bad pair

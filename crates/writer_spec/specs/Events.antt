@@ -36,7 +36,7 @@ before-assoc none g h = refl
 before-assoc (some f) g h = refl
 
 -- the first event begins with the first row
-glue-first : (q : Row) (es : List Event) → (qs : List Row) × (rest : List Event) × (glue q es ≡ (q ∷ qs) ∷ rest)
+pub glue-first : (q : Row) (es : List Event) → (qs : List Row) × (rest : List Event) × (glue q es ≡ (q ∷ qs) ∷ rest)
 unfolding glue
 glue-first q [] = ([], [], refl)
 glue-first q ([] ∷ es) = ([], es, refl)

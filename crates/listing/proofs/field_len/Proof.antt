@@ -1,7 +1,8 @@
 use mathlib.Core.Path.{sym, ap, _∙_}
 use native.Mathlib.Omega.{arith}
 use lib.ListN.{length}
-use Rattle.listing.proofs.Texts.{hex-length, field-absent, field-empty, field-hex}
+use Rattle.text.specs.Laws.{hex-length}
+use Rattle.listing.proofs.Texts.{field-absent, field-empty, field-hex}
 use borrow.Author.Needs.{needs}
 use Rattle.listing.proofs.field_len.Statement.{statement}
 use Rattle.listing.proofs.field_len.Tie as tie

@@ -13,9 +13,7 @@ too-short-requires : tie.Need-too-short-requires
 too-short-requires c κs = search needs
 
 returns : tie.Need-returns
-returns c =
-    let a = c .before .before .before .before .before .before .args in
-    put-short (columns (a .kind) (a .name .now) (a .type-) (field (a .valued) (a .value .now))) (a .out .now) _ _ (omega (arith, c .before .before .columns-len .ensures, c .before .if1 .taken)) (c .too-short .ensures .0) (c .too-short .ensures .1)
+returns c = put-short (columns (c .before .before .before .before .before .before .args .kind) (c .before .before .before .before .before .before .args .name .now) (c .before .before .before .before .before .before .args .type-) (field (c .before .before .before .before .before .before .args .valued) (c .before .before .before .before .before .before .args .value .now))) (c .before .before .before .before .before .before .args .out .now) _ _ (omega (arith, c .before .before .columns-len .ensures, c .before .if1 .taken)) (c .too-short .ensures .0) (c .too-short .ensures .1)
 
 put-columns-requires : tie.Need-put-columns-requires
 put-columns-requires c κs = search needs
@@ -24,9 +22,7 @@ same-length : tie.Need-same-length
 same-length c = search needs
 
 returns-2 : tie.Need-returns-2
-returns-2 c =
-    let a = c .before .before .before .before .before .before .before .before .before .args in
-    put-fits (columns (a .kind) (a .name .now) (a .type-) (field (a .valued) (a .value .now))) (a .out .now) _ _ (omega (arith, c .before .before .before .before .before .columns-len .ensures, c .before .before .before .before .if1 .left)) (c .before .before .before .before .before .columns-len .ensures) (c .before .before .put-columns .ensures)
+returns-2 c = put-fits (columns (c .before .before .before .before .before .before .before .before .before .args .kind) (c .before .before .before .before .before .before .before .before .before .args .name .now) (c .before .before .before .before .before .before .before .before .before .args .type-) (field (c .before .before .before .before .before .before .before .before .before .args .valued) (c .before .before .before .before .before .before .before .before .before .args .value .now))) (c .before .before .before .before .before .before .before .before .before .args .out .now) _ _ (omega (arith, c .before .before .before .before .before .columns-len .ensures, c .before .before .before .before .if1 .left)) (c .before .before .put-columns .ensures)
 
 pub put-line-spec : {M : Type 1} → statement M
 put-line-spec =

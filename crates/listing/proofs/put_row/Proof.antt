@@ -1,9 +1,10 @@
+use Rattle.event.specs.Laws.{span-short}
 use mathlib.Core.Bool.{true, false}
 use mathlib.Core.Path.{sym, ap, _∙_}
 use native.Mathlib.Omega.{arith}
 use lib.ListN.{length, getD}
 use Rattle.wire.specs.Header.{be32}
-use Rattle.listing.proofs.Texts.{span-short, row-put, value-nothing, value-interned, value-unknown, value-string, value-blob, value-word, value-pair}
+use Rattle.listing.proofs.Texts.{row-put, value-nothing, value-interned, value-unknown, value-string, value-blob, value-word, value-pair}
 use borrow.Author.Needs.{needs}
 use Rattle.listing.proofs.put_row.Statement.{statement}
 use Rattle.listing.proofs.put_row.Tie as tie

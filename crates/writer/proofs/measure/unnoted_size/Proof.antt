@@ -1,6 +1,6 @@
 use native.Mathlib.Omega.{arith}
 use lib.ListN.{getD}
-use Rattle.writer.proofs.Spans.{span-short}
+use Rattle.event.specs.Laws.{span-short}
 use Rattle.writer.proofs.Measures.{used-small, there-small, there-crowded, there-asks, there-takes, joins-crowded, joins-asks, joins-takes, full-takes, stays-refused}
 use borrow.Author.Needs.{needs}
 use Rattle.writer.proofs.measure.unnoted_size.Statement.{statement}

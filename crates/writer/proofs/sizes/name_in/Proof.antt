@@ -1,6 +1,6 @@
 use native.Mathlib.Omega.{arith}
 use lib.ListN.{getD}
-use Rattle.writer.proofs.Spans.{span-short}
+use Rattle.event.specs.Laws.{span-short}
 use borrow.Author.Needs.{needs}
 use Rattle.writer.proofs.sizes.name_in.Statement.{statement}
 use Rattle.writer.proofs.sizes.name_in.Tie as tie

@@ -1,0 +1,3 @@
+mod Laws
+mod Turns
+mod Calls

@@ -1,0 +1,1 @@
+// Definitions alone: the XML text of events (specs/).
