@@ -10,9 +10,35 @@ mod same_bytes;
 mod writer;
 mod xml;
 
+use std::collections::BTreeMap;
 use std::process::ExitCode;
 
 use common::Random;
+
+/// How often each refusal came, 0 for none.
+type Seen = BTreeMap<usize, usize>;
+
+/// Tells how a comparison went. What did not come up was not compared: each of these refusals must have come.
+fn agreed(of: &str, done: Result<(), String>, seen: &Seen, refusals: &[usize]) -> bool {
+    if let Err(difference) = done {
+        println!("DIFFERS: {of}: {difference}");
+        return false;
+    }
+    if let Some(number) = refusals.iter().find(|number| !seen.contains_key(number)) {
+        println!("NOT TRIED: {of}: the refusal {number}");
+        return false;
+    }
+    let calls: usize = seen.values().sum();
+    let by_refusal: Vec<String> = seen
+        .iter()
+        .map(|(n, count)| format!("{n}: {count}"))
+        .collect();
+    println!(
+        "{of}: {calls} calls, 0 differ; by refusal, 0 for none: {}",
+        by_refusal.join(", ")
+    );
+    true
+}
 
 fn main() -> ExitCode {
     let seed = std::env::args()

@@ -1,10 +1,11 @@
 //! The writer beside a model of it, over states that a caller may hand in: names that are in the pool twice, pairs that end outside the
 //! output or start far outside it, words that form no rows, buffers that are just long enough or just too short.
 
-use std::collections::{BTreeMap, HashMap};
+use std::collections::HashMap;
 
 use crate::common::Random;
 use crate::ours::{self, Answer};
+use crate::{agreed, Seen};
 
 const MOST_NAMES: usize = 65_535;
 const MOST_OUTPUT: usize = 16_777_216;
@@ -392,9 +393,6 @@ fn lent(random: &mut Random, strings: &Strings, names: usize, room: usize) -> Le
     Lent { output, pool }
 }
 
-/// What was answered, by the refusal's number, 0 where none was.
-type Seen = BTreeMap<usize, usize>;
-
 fn compare(call: &Call, lent: &mut Lent, seen: &mut Seen) -> Result<Answer, String> {
     let mut expected_lent = lent.clone();
     let expected = match model(call, &mut expected_lent) {
@@ -524,25 +522,5 @@ pub fn agrees(random: &mut Random, times: usize) -> bool {
             done = done.and_then(|()| some_calls(random, &sizes, &mut seen));
         }
     }
-    if let Err(difference) = done {
-        println!("DIFFERS: the writer: {difference}");
-        return false;
-    }
-    let calls: usize = seen.values().sum();
-    let refusals: Vec<String> = seen
-        .iter()
-        .map(|(n, count)| format!("{n}: {count}"))
-        .collect();
-    println!(
-        "{calls} calls of the writer, 0 differ; by refusal, 0 for none: {}",
-        refusals.join(", ")
-    );
-    // what did not come up was not compared
-    for number in [0, 7, 11, 14, 15, 16, 17, 19] {
-        if !seen.contains_key(&number) {
-            println!("NOT TRIED: the writer's refusal {number}");
-            return false;
-        }
-    }
-    true
+    agreed("the writer", done, &seen, &[0, 7, 11, 14, 15, 16, 17, 19])
 }

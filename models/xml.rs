@@ -1,10 +1,9 @@
 //! The XML text of events beside a model of it, and the stored lists of xml.txt. The lists have every kind and type, in two stores, with
 //! broken UTF-8, characters that XML does not allow and words that form no rows; the outputs are just long enough, just too short, or longer.
 
-use std::collections::BTreeMap;
-
 use crate::common::{hex, Random};
 use crate::ours::{self, Answer};
+use crate::{agreed, Seen};
 
 const MOST_OUTPUT: usize = 16_777_216;
 
@@ -245,9 +244,6 @@ fn model(list: &List, row: Option<usize>, room: usize) -> Result<Vec<u8>, Refusa
 }
 
 // ---- calls
-
-/// What was answered, by the refusal's number, 0 where none was.
-type Seen = BTreeMap<usize, usize>;
 
 fn call(list: &List, row: Option<usize>, output: &mut [u8]) -> Answer {
     let [first, second] = list.stores;
@@ -740,25 +736,5 @@ pub fn agrees(random: &mut Random, times: usize) -> bool {
             }
         }
     }
-    if let Err(difference) = done {
-        println!("DIFFERS: XML text: {difference}");
-        return false;
-    }
-    let calls: usize = seen.values().sum();
-    let refusals: Vec<String> = seen
-        .iter()
-        .map(|(n, count)| format!("{n}: {count}"))
-        .collect();
-    println!(
-        "{calls} calls for XML text, 0 differ; by refusal, 0 for none: {}",
-        refusals.join(", ")
-    );
-    // what did not come up was not compared
-    for number in [0, 7, 15, 16, 17, 20] {
-        if !seen.contains_key(&number) {
-            println!("NOT TRIED: the refusal {number} of XML text");
-            return false;
-        }
-    }
-    true
+    agreed("XML text", done, &seen, &[0, 7, 15, 16, 17, 20])
 }

@@ -9,7 +9,8 @@ use lib.ListN.{length, drop}
 use lib.Seq.{sets-eq}
 use Rattle.wire.specs.Refusal.{outputFull}
 use Rattle.event.specs.Row.{hasName}
-use Rattle.text.specs.Put.{Put, put-both, after-within}
+use Rattle.text.specs.Put.{Put}
+use Rattle.text.specs.PutLaws.{put-both, after-within}
 use Rattle.listing.specs.Text.{newline, space, decimal, field}
 use Rattle.listing.specs.Line.{wrote, refused, typeText, columns, endWord, endLine, refusedWord, refusedLine, put}
 

@@ -10,7 +10,8 @@ use lib.Seq.{sets, take-all, take-suc, drop-cons, length-sets, length-take-le}
 use Rattle.grammar.specs.Stores.{sets-append}
 use Rattle.byte_copy.specs.Sets.{sets-past}
 use Rattle.text.specs.Numerals.{digit, hex, numeral, letter, pad, base64}
-use Rattle.text.specs.Put.{after, Put, put-both}
+use Rattle.text.specs.Put.{after, Put}
+use Rattle.text.specs.PutLaws.{put-both}
 use Rattle.text.specs.Laws.{numeral-one, numeral-more, one-less, hex-length, hex-append}
 
 pub put-length : (l : List ℕ) (at : ℕ) (t l′ : List ℕ) (end : ℕ) → Put l at t l′ end → length l′ ≡ length l

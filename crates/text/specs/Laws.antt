@@ -9,7 +9,8 @@ use lib.Dec.{ltb}
 use lib.ListN.{length, drop}
 use Rattle.grammar.specs.Choice.{byTest}
 use Rattle.text.specs.Numerals.{digit, hex, numeralIn, numeral, base64}
-use Rattle.text.specs.Put.{Put, put-both}
+use Rattle.text.specs.Put.{Put}
+use Rattle.text.specs.PutLaws.{put-both}
 
 -- ---- numbers
 

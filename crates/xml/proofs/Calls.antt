@@ -17,7 +17,8 @@ use Rattle.event.specs.Words.{listForms}
 use Rattle.forms.specs.Placed.{rowFormsAt}
 use Rattle.grammar.specs.Choice.{byTest}
 use Rattle.writer_spec.specs.Writer.{Refusal, _before_, refuseIf, rowsIn}
-use Rattle.text.specs.Put.{after, after-within}
+use Rattle.text.specs.Put.{after}
+use Rattle.text.specs.PutLaws.{after-within}
 use Rattle.xml_spec.specs.Chars.{legal}
 use Rattle.xml_spec.specs.ToXml.{ofRow, refusal, Left, wrote, refused, unless, toXml}
 use Rattle.xml_spec.specs.Rows.{rowsXml, rowFault, endRefusal, rowsRefusal, rowText, rowRefusal, rowToXml}

@@ -9,7 +9,8 @@ use lib.ListN.{length, drop, length-drop}
 use lib.Seq.{length-sets}
 use Rattle.event.specs.Row.{rowAt, rowsAt}
 use Rattle.writer_spec.specs.Writer.{Refusal, rowsIn, ends}
-use Rattle.text.specs.Put.{after, after-within, Put, put-none, put-both}
+use Rattle.text.specs.Put.{after, Put}
+use Rattle.text.specs.PutLaws.{after-within, put-none, put-both}
 use Rattle.xml_spec.specs.Rows.{rowXml, rowsXml, rowsRefusal}
 use Rattle.xml.specs.Passes.{told, TurnSays}
 use Rattle.xml.specs.declared.Tally.{Tally}

@@ -8,7 +8,8 @@ use native.Mathlib.Omega.{arith}
 use borrow.Author.Tests.{ne-eqb}
 use lib.ListN.{length, getD, set, take, drop, length-drop, length-take}
 use lib.Seq.{take-suc, take-add, take-all, take-length, getD-drop, sets, length-sets}
-use Rattle.text.specs.Put.{after, after-after, Put, put-none, put-both}
+use Rattle.text.specs.Put.{after, Put}
+use Rattle.text.specs.PutLaws.{after-after, put-none, put-both}
 use Rattle.xml_spec.specs.Xml.{escaped, escape}
 use Rattle.xml_escape.specs.Extra.{extra, extras, plain, Bare, extra-plain, escape-append, extras-append, escape-length, escape-bare, extras-most}
 

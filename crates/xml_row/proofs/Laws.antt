@@ -15,7 +15,8 @@ use Rattle.event.specs.Row.{shape, hasName, valueAt, rowAt}
 use Rattle.event.specs.declared.Shape.{Shape}
 use Rattle.text.specs.Ascii.{ascii}
 use Rattle.text.specs.Numerals.{numeral}
-use Rattle.text.specs.Put.{after, after-after}
+use Rattle.text.specs.Put.{after}
+use Rattle.text.specs.PutLaws.{after-after}
 use Rattle.xml_spec.specs.Chars.{legal}
 use Rattle.xml_spec.specs.Xml.{valueXml, attributeXml, textOf, textXml}
 use Rattle.xml_spec.specs.ToXml.{ofValue}

@@ -1,7 +1,7 @@
 use mathlib.Core.List.{[], _∷_}
 use Prim.Native.Nat.{_/_, _%_}
 use Rattle.text.specs.Numerals.{digit}
-use Rattle.text.specs.Put.{put-both}
+use Rattle.text.specs.PutLaws.{put-both}
 use Rattle.text.specs.Laws.{numeral-one}
 use borrow.Author.Needs.{needs}
 use Rattle.listing.proofs.put_decimal.Statement.{statement}

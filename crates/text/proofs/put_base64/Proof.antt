@@ -5,7 +5,7 @@ use mathlib.Core.Path.{refl, sym, ap, _∙_}
 use Prim.Native.Nat.{_+_, _-_}
 use lib.ListN.{length, length-drop}
 use Rattle.text.specs.Numerals.{base64}
-use Rattle.text.specs.Put.{put-none}
+use Rattle.text.specs.PutLaws.{put-none}
 use Rattle.text.specs.Laws.{Begun, begun-more, begun-all}
 use Rattle.text.proofs.Steps.{put-length, part-all, quad-more}
 use Rattle.text.proofs.put_base64.Statement.{statement}

@@ -1,5 +1,5 @@
 use native.Mathlib.Omega.{arith}
-use Rattle.text.specs.Put.{put-none}
+use Rattle.text.specs.PutLaws.{put-none}
 use Rattle.text.proofs.Steps.{none-left, one-left, two-left}
 use borrow.Author.Needs.{needs}
 use Rattle.text.proofs.put_rest.Statement.{statement}

@@ -3,7 +3,8 @@ use mathlib.Core.List.{[], _∷_}
 use native.Mathlib.Omega.{arith}
 use lib.ListN.{length-set}
 use borrow.Author.Needs.{needs}
-use Rattle.text.specs.Put.{after, put-both}
+use Rattle.text.specs.Put.{after}
+use Rattle.text.specs.PutLaws.{put-both}
 use Rattle.xml_escape.proofs.Turns.{stores}
 use Rattle.xml_escape.proofs.put_two.Statement.{statement}
 use Rattle.xml_escape.proofs.put_two.Tie as tie

@@ -2,7 +2,7 @@ use borrow.Author.Needs.{needs}
 use Rattle.xml_row.proofs.put.Statement.{statement}
 use Rattle.xml_row.proofs.put.Tie as tie
 use Rattle.event.specs.Row.{hasName}
-use Rattle.text.specs.Put.{put-none, put-both}
+use Rattle.text.specs.PutLaws.{put-none, put-both}
 use Rattle.xml_row.proofs.Laws.{row-none, row-start, row-end, row-attribute, row-text}
 
 element-copy-out-kind : tie.Need-element-copy-out-kind

@@ -1,7 +1,7 @@
 use borrow.Author.Needs.{needs}
 use Rattle.xml_row.proofs.put_attribute.Statement.{statement}
 use Rattle.xml_row.proofs.put_attribute.Tie as tie
-use Rattle.text.specs.Put.{put-both}
+use Rattle.text.specs.PutLaws.{put-both}
 use Rattle.xml_row.proofs.Laws.{attribute-of}
 
 put-byte-requires : tie.Need-put-byte-requires

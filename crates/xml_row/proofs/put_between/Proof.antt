@@ -1,4 +1,4 @@
-use Rattle.text.specs.Put.{put-both}
+use Rattle.text.specs.PutLaws.{put-both}
 use borrow.Author.Needs.{needs}
 use Rattle.xml_row.proofs.put_between.Statement.{statement}
 use Rattle.xml_row.proofs.put_between.Tie as tie

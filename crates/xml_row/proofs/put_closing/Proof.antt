@@ -1,4 +1,4 @@
-use Rattle.text.specs.Put.{put-none}
+use Rattle.text.specs.PutLaws.{put-none}
 use borrow.Author.Needs.{needs}
 use Rattle.xml_row.proofs.put_closing.Statement.{statement}
 use Rattle.xml_row.proofs.put_closing.Tie as tie

@@ -1,5 +1,5 @@
 use borrow.Author.Tests.{ne-eqb}
-use Rattle.text.specs.Put.{put-none}
+use Rattle.text.specs.PutLaws.{put-none}
 use Rattle.xml_spec.specs.Xml.{valueXml}
 use borrow.Author.Needs.{needs}
 use Rattle.xml_row.proofs.values.put_mark.Statement.{statement}

@@ -1,7 +1,7 @@
 use borrow.Author.Tests.{ne-eqb}
 use Rattle.wire.specs.Header.{be32}
 use Rattle.text.specs.Laws.{hex-append}
-use Rattle.text.specs.Put.{put-both}
+use Rattle.text.specs.PutLaws.{put-both}
 use Rattle.xml_spec.specs.Xml.{valueXml}
 use borrow.Author.Needs.{needs}
 use Rattle.xml_row.proofs.values.put_pair.Statement.{statement}

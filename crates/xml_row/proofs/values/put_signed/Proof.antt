@@ -1,4 +1,4 @@
-use Rattle.text.specs.Put.{put-both}
+use Rattle.text.specs.PutLaws.{put-both}
 use Rattle.xml_row.specs.Numbers.{signedBy}
 use Rattle.xml_row.proofs.Laws.{digits-part}
 use borrow.Author.Needs.{needs}
