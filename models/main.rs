@@ -3,9 +3,11 @@
 #[path = "../differential/common.rs"]
 mod common;
 mod names;
+mod nesting;
 #[path = "../differential/ours.rs"]
 #[allow(dead_code)] // the comparison with the Rust uses the rest
 mod ours;
+mod rows;
 mod same_bytes;
 mod writer;
 mod xml;
@@ -50,7 +52,10 @@ fn main() -> ExitCode {
         && names::agree(random, 1_500)
         && writer::agrees(random, 100_000)
         && xml::stored_agree()
-        && xml::agrees(random, 60_000);
+        && xml::agrees(random, 60_000)
+        && nesting::stored_agree()
+        && nesting::short_agree(6)
+        && nesting::agrees(random, 200_000);
     if good {
         println!("models: no difference");
         return ExitCode::SUCCESS;

@@ -1,8 +1,9 @@
 //! The XML text of events beside a model of it, and the stored lists of xml.txt. The lists have every kind and type, in two stores, with
 //! broken UTF-8, characters that XML does not allow and words that form no rows; the outputs are just long enough, just too short, or longer.
 
-use crate::common::{hex, Random};
+use crate::common::Random;
 use crate::ours::{self, Answer};
+use crate::rows::{bytes, damage, List, Made, Refusal, Row, Value};
 use crate::{agreed, Seen};
 
 const MOST_OUTPUT: usize = 16_777_216;
@@ -11,27 +12,6 @@ const MOST_OUTPUT: usize = 16_777_216;
 const UNWRITTEN: u8 = 0xAA;
 
 // ---- the model, from the paper's words
-
-/// Two stores, and words that may form rows.
-struct List<'a> {
-    stores: [&'a [u8]; 2],
-    words: &'a [u32],
-}
-
-/// A refusal's number; the detail is 0.
-type Refusal = u32;
-
-enum Value<'a> {
-    Nothing,
-    String(&'a [u8]),
-    Text(String),
-}
-
-struct Row<'a> {
-    kind: u32,
-    name: Option<&'a [u8]>,
-    value: Value<'a>,
-}
 
 fn signed(n: i64, base: u32) -> String {
     let sign = if n < 0 { "-" } else { "" };
@@ -66,77 +46,10 @@ fn base64(bytes: &[u8]) -> String {
     text
 }
 
-impl<'a> List<'a> {
-    /// The bytes of a span, if it ends in its store.
-    fn span(&self, words: &[u32]) -> Option<&'a [u8]> {
-        let (start, length) = (words[1] as usize, words[2] as usize);
-        let store = self.stores.get(words[0] as usize)?;
-        store.get(start..start + length)
-    }
-
-    fn whole_rows(&self) -> usize {
-        self.words.len() / 8
-    }
-
-    /// The row of a number, if it forms one there: an attribute follows a start tag or an attribute.
-    fn row(&self, number: usize) -> Option<Row<'a>> {
-        if number >= self.whole_rows() {
-            return None;
-        }
-        let words = &self.words[8 * number..][..8];
-        let [kind, of] = [words[0], words[4]];
-        let before = match number {
-            0 => None,
-            _ => Some(self.words[8 * number - 8]),
-        };
-        let has_name = match (kind, of) {
-            (0 | 1, 0) | (4..=10, 2) => false,
-            (2 | 3, 0) => true,
-            (15, 1 | 2 | 4..=13) if matches!(before, Some(2 | 15)) => true,
-            _ => return None,
-        };
-        let name = match (has_name, &words[1..4]) {
-            (true, name) => Some(self.span(name)?),
-            (false, [0, 0, 0]) => None,
-            _ => return None,
-        };
-        let value = &words[5..8];
-        let value = match (of, value) {
-            (2, _) => Value::String(self.span(value)?),
-            (4, _) => {
-                let digits = self.span(value)?.iter().map(|byte| format!("{byte:02x}"));
-                Value::Text(digits.collect())
-            }
-            (5, _) => Value::Text(base64(self.span(value)?)),
-            (6, [0, 0, n]) => Value::Text(signed((*n as i32).into(), 10)),
-            (7, [0, 0, n]) => Value::Text(signed((*n as i32).into(), 16)),
-            (10, [0, 0, n]) => Value::Text(format!("{n:08x}")),
-            (8 | 9 | 11, [0, high, low]) => {
-                let n = u64::from(*high) << 32 | u64::from(*low);
-                Value::Text(match of {
-                    8 => signed(n as i64, 10),
-                    9 => signed(n as i64, 16),
-                    _ => format!("{n:016x}"),
-                })
-            }
-            (12, [0, 0, 0]) => Value::Text("true".into()),
-            (13, [0, 0, 0]) => Value::Text("false".into()),
-            (0 | 1, [0, 0, 0]) => Value::Nothing,
-            _ => return None,
-        };
-        Some(Row { kind, name, value })
-    }
-
+impl List<'_> {
     /// Whether no attribute comes after the row.
     fn is_last(&self, number: usize) -> bool {
         number + 1 >= self.whole_rows() || self.words[8 * number + 8] != 15
-    }
-
-    fn rows(&self) -> Option<Vec<Row<'a>>> {
-        if self.words.len() % 8 != 0 {
-            return None;
-        }
-        (0..self.whole_rows()).map(|n| self.row(n)).collect()
     }
 }
 
@@ -169,6 +82,25 @@ impl Row<'_> {
         self.name.into_iter().chain(value).collect()
     }
 
+    /// An attribute's value.
+    fn value_text(&self) -> Vec<u8> {
+        let text = match (self.of, &self.value) {
+            (_, Value::String(string)) => return escaped(string),
+            (4, Value::Blob(blob)) => blob.iter().map(|byte| format!("{byte:02x}")).collect(),
+            (_, Value::Blob(blob)) => base64(blob),
+            (6, Value::Bits(n)) => signed((*n as i32).into(), 10),
+            (7, Value::Bits(n)) => signed((*n as i32).into(), 16),
+            (8, Value::Bits(n)) => signed(*n as i64, 10),
+            (9, Value::Bits(n)) => signed(*n as i64, 16),
+            (10, Value::Bits(n)) => format!("{n:08x}"),
+            (_, Value::Bits(n)) => format!("{n:016x}"),
+            (12, Value::Nothing) => "true".into(),
+            (13, Value::Nothing) => "false".into(),
+            (_, Value::Nothing) => String::new(),
+        };
+        text.into_bytes()
+    }
+
     /// The row's part of its event's text.
     fn text(&self, is_last: bool) -> Vec<u8> {
         let name = self.name.unwrap_or_default();
@@ -189,12 +121,7 @@ impl Row<'_> {
             9 => [b"<!--", string, b"-->"],
             10 => [b"<!DOCTYPE ", string, b">"],
             _ => {
-                let value = match &self.value {
-                    Value::Nothing => vec![],
-                    Value::String(string) => escaped(string),
-                    Value::Text(text) => text.clone().into_bytes(),
-                };
-                return [b" ", name, b"=\"", &value, b"\"", close].concat();
+                return [b" ", name, b"=\"", &self.value_text(), b"\"", close].concat();
             }
         };
         parts.concat()
@@ -326,14 +253,6 @@ fn compare_all(random: &mut Random, list: &List, seen: &mut Seen) -> Result<(), 
 
 // ---- the stored lists
 
-/// Bytes in hex; `=` for none, and `65*9` for nine of one.
-fn bytes(column: &str) -> Vec<u8> {
-    match column.split_once('*') {
-        None => hex(column),
-        Some((byte, times)) => hex(byte).repeat(times.parse().expect("a number")),
-    }
-}
-
 /// The lists of xml.txt.
 pub fn stored_agree() -> bool {
     let mut seen = Seen::new();
@@ -344,15 +263,8 @@ pub fn stored_agree() -> bool {
         else {
             continue;
         };
-        let stores = [bytes(first), bytes(second)];
-        let words: Vec<u32> = words
-            .split(',')
-            .filter_map(|word| word.parse().ok())
-            .collect();
-        let list = List {
-            stores: [&stores[0], &stores[1]],
-            words: &words,
-        };
+        let stored = Made::stored(first, second, words);
+        let list = stored.list();
         let room = room.parse().expect("a length");
         let expected = match text.strip_prefix('!') {
             Some(number) => Err(number.parse().expect("a refusal's number")),
@@ -491,29 +403,7 @@ fn word(random: &mut Random) -> u32 {
     }
 }
 
-struct Made {
-    stores: [Vec<u8>; 2],
-    words: Vec<u32>,
-}
-
 impl Made {
-    fn list(&self) -> List<'_> {
-        List {
-            stores: [&self.stores[0], &self.stores[1]],
-            words: &self.words,
-        }
-    }
-
-    /// Puts bytes into one of the stores, some others before them.
-    fn span(&mut self, random: &mut Random, bytes: &[u8]) -> [u32; 3] {
-        let source = random.below(2);
-        let store = &mut self.stores[source];
-        store.extend(b"<\0\xFF".iter().take(random.below(4)));
-        let start = store.len();
-        store.extend(bytes);
-        [source, start, bytes.len()].map(|n| n as u32)
-    }
-
     fn string(&mut self, random: &mut Random, faults: &Faults) -> [u32; 3] {
         let string = string(random, faults);
         self.span(random, &string)
@@ -561,10 +451,7 @@ impl Made {
 }
 
 fn made(random: &mut Random, rows: usize) -> Made {
-    let mut made = Made {
-        stores: [vec![], vec![]],
-        words: vec![],
-    };
+    let mut made = Made::new();
     let faults = match random.below(6) {
         0 => Faults {
             illegal: Some(8),
@@ -585,24 +472,6 @@ fn made(random: &mut Random, rows: usize) -> Made {
     };
     (0..rows).for_each(|_| made.row(random, &faults));
     made
-}
-
-/// A wrong word, or one too few or too many. What comes of it may be rows all the same, or a string that is cut.
-fn damage(random: &mut Random, words: &mut Vec<u32>) {
-    if words.is_empty() {
-        return words.push(15);
-    }
-    let at = random.below(words.len());
-    match random.below(8) {
-        0 => words.push([0, 15][random.below(2)]),
-        1 => words.truncate(at),
-        2 => words.drain(..at / 8 * 8).for_each(drop),
-        3 => words[at] = words[at].wrapping_add(1),
-        4 => words[at] = words[at].wrapping_sub(1),
-        5 => words[at / 8 * 8] = random.below(17) as u32,
-        6 => words[at / 8 * 8 + 4] = random.below(17) as u32,
-        _ => words[at] = [0, 1, 2, 3, 4, 11, 14, 15, 16, u32::MAX][random.below(10)],
-    }
 }
 
 /// Outputs at the limit and over it, and strings and blobs that ABX has no room for.

@@ -7,8 +7,8 @@
  * refusal's number (ABX_HEADER_SHORT to ABX_ILLEGAL_CHAR) and its detail, which is 0 where none is named; or ABX_NEED_MORE. A word of the four that is not
  * named at a function is 0. Fewer than four are left as they are. A refused call changes nothing else, but for a query, which keeps what it found.
  *
- * Stack: a call that handles one event takes less than 64 KB (abx_write_event where it has at most 1,024 rows), and so does abx_to_xml; a query, a list
- * that is written as ABX, and a longer event less than 600 KB, but where more than 20,480 different names are written, 1.6 MB.
+ * Stack: a call that handles one event takes less than 64 KB (abx_write_event where it has at most 1,024 rows), and so do abx_to_xml and abx_nested, of
+ * any list; a query, a list that is written as ABX, and a longer event less than 600 KB, but where more than 20,480 different names are written, 1.6 MB.
  *
  * A row is eight words: kind; name (source, start, length); type; value (source, a, b). A word that its kind or type has no use for is 0. A span's source
  * is 0 for the document, the window or the first store, 1 for the name store or the second store. A pool has two words for a name, and an even
@@ -192,6 +192,16 @@ void abx_to_xml(const uint8_t *first, size_t first_len, const uint8_t *second, s
 void abx_row_to_xml(size_t row, const uint8_t *first, size_t first_len, const uint8_t *second, size_t second_len,
                     const uint32_t *rows, size_t rows_len, uint8_t *output, size_t output_len, size_t *answer,
                     size_t answer_len);
+
+/* ---- nesting: whether a list of events is one nested document. It has exactly one outermost element. Each end tag has the name of the innermost open
+ * start tag. No tag stays open. At most 64 are open at once. Outside the outermost element stand only document events and the kinds from
+ * ABX_IGNORABLE_WHITESPACE to ABX_DOC_DECL; inside it all kinds but document events. There is at most one ABX_START_DOCUMENT, the first event, and at
+ * most one ABX_END_DOCUMENT, the last. The empty list is not one. */
+
+/* DONE, 1 for yes or 0 for no. Refused by ABX_NOT_ROWS alone, for the whole list. Of the strings only the names of tags are looked at, and compared by
+ * their bytes, wherever these stand: they need not be UTF-8, and may have any length. */
+void abx_nested(const uint8_t *first, size_t first_len, const uint8_t *second, size_t second_len,
+                const uint32_t *rows, size_t rows_len, size_t *answer, size_t answer_len);
 
 #ifdef __cplusplus
 }

@@ -328,3 +328,14 @@ pub(crate) fn row_to_xml(
     let answer = library::abx_row_to_xml(row, store, &[], rows, output);
     text_len(answer, output)
 }
+
+// ---- nesting
+
+/// Whether a list is one nested document.
+pub(crate) fn nested(store: &[u8], rows: &[u32]) -> Result<bool> {
+    match library::abx_nested(store, &[], rows) {
+        [DONE, 0, _, _] => Ok(false),
+        [DONE, 1, _, _] => Ok(true),
+        answer => Err(refusal(answer)),
+    }
+}

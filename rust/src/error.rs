@@ -39,7 +39,7 @@ pub enum AbxError {
     RowsFull,
     /// 11: there are more names than the pool table takes.
     PoolFull,
-    /// 12: the names have more bytes than [`MAX_STORE`](crate::MAX_STORE).
+    /// 12: the names have more bytes than [`MAX_STORE`](crate::MAX_STORE), or those that [`nested`](crate::nested) is asked about come to 4 GiB.
     NamesFull,
     /// 13: an event is longer than the window may get.
     WindowFull,

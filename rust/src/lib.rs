@@ -32,6 +32,7 @@ mod event;
 mod library;
 #[allow(unsafe_code)]
 mod name;
+mod nesting;
 mod reading;
 mod rows;
 mod slice;
@@ -45,6 +46,7 @@ pub use buffers::{Sizes, MAX_DOCUMENT, MAX_NAMES, MAX_OUTPUT, MAX_STORE, MAX_WIN
 pub use error::{AbxError, Result};
 pub use event::{Attribute, AttributeValue, Event};
 pub use name::InternedStr;
+pub use nesting::nested;
 pub use slice::{AbxParser, AbxParserOwned};
 pub use stream::{AbxPushParser, AbxStreamParser, Next};
 pub use writer::{events_to_abx, AbxWriter};

@@ -86,6 +86,8 @@ library! {
 
     fn abx_to_xml(; first: &[u8], second: &[u8], rows: &[u32], output: &mut [u8]);
     fn abx_row_to_xml(row; first: &[u8], second: &[u8], rows: &[u32], output: &mut [u8]);
+
+    fn abx_nested(; first: &[u8], second: &[u8], rows: &[u32]);
 }
 
 pub(crate) fn abx_is_utf8(s: &[u8]) -> bool {

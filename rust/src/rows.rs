@@ -65,27 +65,40 @@ impl List {
     }
 
     pub(crate) fn push(&mut self, event: &Event) -> Result<()> {
+        self.add::<true>(event)
+    }
+
+    /// One row, with the kind and a tag's name: attributes are left out, and a text is empty.
+    pub(crate) fn push_outline(&mut self, event: &Event) -> Result<()> {
+        self.add::<false>(event)
+    }
+
+    /// The whole event, or its outline: the compiler decides, so that `push` does not pay for it.
+    #[inline]
+    fn add<const WHOLE: bool>(&mut self, event: &Event) -> Result<()> {
         match event {
             Event::StartDocument => self.row(START_DOCUMENT, NOTHING, 0, NOTHING),
             Event::EndDocument => self.row(END_DOCUMENT, NOTHING, 0, NOTHING),
             Event::StartTag { name, attributes } => {
                 let name = self.name(name)?;
                 self.row(START_TAG, name, 0, NOTHING);
-                for attribute in attributes {
-                    self.attribute(attribute)?;
+                if WHOLE {
+                    for attribute in attributes {
+                        self.attribute(attribute)?;
+                    }
                 }
             }
             Event::EndTag { name } => {
                 let name = self.name(name)?;
                 self.row(END_TAG, name, 0, NOTHING);
             }
-            Event::Text(s) => self.text(TEXT, s)?,
-            Event::CdataSection(s) => self.text(CDATA, s)?,
-            Event::EntityReference(s) => self.text(ENTITY_REF, s)?,
-            Event::IgnorableWhitespace(s) => self.text(IGNORABLE_WHITESPACE, s)?,
-            Event::ProcessingInstruction(s) => self.text(PROCESSING_INSTRUCTION, s)?,
-            Event::Comment(s) => self.text(COMMENT, s)?,
-            Event::DocDecl(s) => self.text(DOC_DECL, s)?,
+            Event::Text(s) => self.text::<WHOLE>(TEXT, s)?,
+            Event::CdataSection(s) => self.text::<WHOLE>(CDATA, s)?,
+            Event::EntityReference(s) => self.text::<WHOLE>(ENTITY_REF, s)?,
+            Event::IgnorableWhitespace(s) => self.text::<WHOLE>(IGNORABLE_WHITESPACE, s)?,
+            Event::ProcessingInstruction(s) => self.text::<WHOLE>(PROCESSING_INSTRUCTION, s)?,
+            Event::Comment(s) => self.text::<WHOLE>(COMMENT, s)?,
+            Event::DocDecl(s) => self.text::<WHOLE>(DOC_DECL, s)?,
         }
         Ok(())
     }
@@ -134,8 +147,12 @@ impl List {
         self.span(name)
     }
 
-    fn text(&mut self, kind: u32, s: &str) -> Result<()> {
-        let value = self.span(s.as_bytes())?;
+    fn text<const WHOLE: bool>(&mut self, kind: u32, s: &str) -> Result<()> {
+        let value = if WHOLE {
+            self.span(s.as_bytes())?
+        } else {
+            NOTHING
+        };
         self.row(kind, NOTHING, STRING, value);
         Ok(())
     }

@@ -9,9 +9,9 @@ use crate::{AbxError, Event, Result};
 
 /// Writes events to a sink, as a document of any length.
 ///
-/// Names are interned, values are not. Events are written as they come: whether tags are closed is not checked. What is written goes to
-/// the sink at once, so wrap a file in a [`BufWriter`](std::io::BufWriter) where events are written one by one. A refused call writes nothing.
-/// One event takes 64 KB of stack, more up to 1.6 MB (the README says when).
+/// Names are interned, values are not. Events are written as they come: whether tags are closed is for [`nested`](crate::nested) to say. What is
+/// written goes to the sink at once, so wrap a file in a [`BufWriter`](std::io::BufWriter) where events are written one by one. A refused call
+/// writes nothing. One event takes 64 KB of stack, more up to 1.6 MB (the README says when).
 ///
 /// ```
 /// use abx::{AbxWriter, Event};

@@ -67,7 +67,7 @@ fn the_header_declares_what_rust_calls() {
         assert!(header.contains(&declared), "{declared}");
         count += 1;
     }
-    assert_eq!(count, 15);
+    assert_eq!(count, 16);
     assert_eq!(header.matches("void abx_").count(), count);
     assert!(header.contains("bool abx_is_utf8(const uint8_t *s, size_t s_len);"));
 }

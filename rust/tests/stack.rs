@@ -261,6 +261,47 @@ fn xml_text() {
     assert_eq!(with_stack(ONE_EVENT, "to_xml", print), [2, 16, 0, 0]);
 }
 
+/// Elements one in the other, each tag's name with a span of its own.
+fn deep(levels: usize) -> List {
+    let mut list = List::new(&vec!["name".to_owned(); 2 * levels]);
+    for row in list.rows.chunks_exact_mut(8).take(levels) {
+        row[0] = 2;
+    }
+    list
+}
+
+/// So many elements in one.
+fn siblings(count: usize) -> List {
+    let mut list = List::new(&vec!["name".to_owned(); 2 * count + 2]);
+    let rows = list.rows.chunks_exact_mut(8);
+    for (place, row) in rows.enumerate().take(2 * count + 1) {
+        row[0] = if place == 0 || place % 2 == 1 { 2 } else { 3 };
+    }
+    list
+}
+
+#[test]
+fn nesting() {
+    let yes: Answer = [0, 1, 0, 0];
+    let no: Answer = [0, 0, 0, 0];
+    let lists = [
+        ("64 deep", deep(64), yes),
+        ("65 deep", deep(65), no),
+        ("100,000 deep", deep(100_000), no),
+        ("70,000 siblings", siblings(70_000), yes),
+    ];
+    for (what, list, wanted) in lists {
+        let ask = || abx_nested(&list.store, &[], &list.rows);
+        let answer = with_stack(ONE_EVENT, &format!("nested, {what}"), ask);
+        assert_eq!(answer, wanted, "{what}");
+    }
+    // one that is refused late
+    let mut list = deep(64);
+    list.rows.extend([3, 0, u32::MAX, 1, 0, 0, 0, 0]);
+    let ask = || abx_nested(&list.store, &[], &list.rows);
+    assert_eq!(with_stack(ONE_EVENT, "nested", ask), [2, 16, 0, 0]);
+}
+
 #[cfg(feature = "queries")]
 #[test]
 fn queries() {

@@ -9,13 +9,14 @@ use writer::Writer;
 ghost use mathlib.Core.List.{[]};
 ghost use mathlib.Core.Path.{_≡_};
 ghost use Rattle.utf8.specs.Utf8.{wellFormed};
+ghost use Rattle.nesting_spec.specs.Nesting.{nesting};
 ghost use Rattle.slice_spec.specs.Slice as Slice;
 ghost use Rattle.stream.specs.Answers.{lend};
 ghost use Rattle.stream_spec.specs.Stream as Chunks;
 ghost use Rattle.writer_spec.specs.Writer as Spec;
 ghost use Rattle.xml_spec.specs.ToXml.{toXml};
 ghost use Rattle.xml_spec.specs.Rows.{rowToXml};
-ghost use Rattle.abx_words.specs.Words.{answered, createdWords, NextLeft, streamIn, StreamLeft, opened, OpenLeft, WriteLeft, XmlLeft};
+ghost use Rattle.abx_words.specs.Words.{answered, createdWords, NextLeft, streamIn, StreamLeft, opened, OpenLeft, WriteLeft, XmlLeft, nestingWords};
 
 // Whether s is well-formed UTF-8.
 #[no_mangle]
@@ -195,4 +196,19 @@ pub extern "C" fn abx_row_to_xml<'a>(
     ensures { λ _. ⌜ XmlLeft (now (answer .entry)) (now (answer .exit)) (now (output .exit)) (rowToXml (now (first .entry)) (now (second .entry)) (now (rows .entry)) row (now (output .entry))) ⌝ }
 {
     xml_words::tell_printed(answer, xml::row_to_xml(first, second, rows, row, output))
+}
+
+// ---- nesting
+
+// 0, and 1 where the list is one nested document or 0 where it is not; or 2, number and detail.
+#[no_mangle]
+pub extern "C" fn abx_nested<'a>(
+    first: &'a [u8],
+    second: &'a [u8],
+    rows: &[u32],
+    answer: &mut [usize],
+)
+    ensures { λ _. ⌜ now (answer .exit) ≡ answered (now (answer .entry)) (nestingWords (nesting (now (first .entry)) (now (second .entry)) (now (rows .entry)))) ⌝ }
+{
+    nesting_words::tell_nesting(answer, nesting::nested(first, second, rows))
 }

@@ -7,6 +7,7 @@ use lib.Dec.{eqb, leb, ltb}
 use lib.ListN.{getD, length}
 use lib.Seq.{sets}
 use Rattle.wire.specs.Refusal.{badState}
+use Rattle.nesting_spec.specs.Nesting as Nesting
 use Rattle.slice_spec.specs.Slice as Slice
 use Rattle.stream_spec.specs.Stream as Chunks
 use Rattle.writer_spec.specs.Writer as Writer
@@ -127,3 +128,10 @@ textWords (Xml.refused n d) = 2 ∷ n ∷ d ∷ 0 ∷ []
 pub record XmlLeft (answer answer′ output : List ℕ) (x : Xml.Left) : Type 0 where
   pub answer-is : answer′ ≡ answered answer (textWords (x .reply))
   pub output-is : output ≡ x .out
+
+-- ---- nesting
+
+abbrev pub nestingWords : Nesting.Answer → List ℕ
+nestingWords Nesting.yes = 0 ∷ 1 ∷ 0 ∷ 0 ∷ []
+nestingWords Nesting.no = 0 ∷ 0 ∷ 0 ∷ 0 ∷ []
+nestingWords (Nesting.refused n d) = 2 ∷ n ∷ d ∷ 0 ∷ []

@@ -1,4 +1,2 @@
-pub mod Nesting
+pub mod Answers
 pub mod Reading
-pub mod Laws
-pub mod Runs

@@ -3,10 +3,10 @@ use Prim.Native.Nat.{ℕ, _+_, _-_, _*_, _/_, _≤_, _<_}
 use native.Mathlib.Omega.{arith}
 use lib.ListN.{length}
 use borrow.Author.Needs.{needs}
-use Rattle.nesting.specs.Reading.{Passes}
-use Rattle.nesting.proofs.Walk.{passes-other, deep, inner, unclosed, other-name, closed}
 use borrow.Fn.Kinds.{In}
 use borrow.Fn.PlainCycle.{Measures, is, falls, and}
+use Rattle.nesting.specs.Reading.{Passes}
+use Rattle.nesting.proofs.Walk.{passes-other, breaks-document, opens-element, deep, inner, unclosed, other-name, closed}
 use Rattle.nesting.proofs.contents.Reads as contents
 use Rattle.nesting.proofs.contents.Kinds as contents-kinds
 use Rattle.nesting.proofs.+contents+element.Lts-contents as contents-lts
@@ -79,6 +79,40 @@ contents-shared-slice-read-kind : (t : ℕ) → contents-lts.Need-shared-slice-r
 ) (contents-at t) contents.Post contents-Inv-loop contents-μ-loop
 contents-shared-slice-read-kind t c = omega arith
 
+contents-add-k :
+    (t : ℕ) →
+    contents-lts.Need-add-k
+    (element-below t, element.Post)
+    (contents-at t)
+    contents.Post
+    contents-Inv-loop
+    contents-μ-loop
+contents-add-k t c = omega arith
+
+contents-loop-less :
+    (t : ℕ) →
+    contents-lts.Need-loop-less
+    (element-below t, element.Post)
+    (contents-at t)
+    contents.Post
+    contents-Inv-loop
+    contents-μ-loop
+contents-loop-less t c = omega arith
+
+contents-loop-again :
+    (t : ℕ) →
+    contents-lts.Need-loop-again
+    (element-below t, element.Post)
+    (contents-at t)
+    contents.Post
+    contents-Inv-loop
+    contents-μ-loop
+contents-loop-again t c =
+    let a = c .before .before .before .before .before .before .before .args in
+    let l = c .before .before .before .loop in
+    let other = passes-other (a .first .now) (a .second .now) (a .rows .now) (l .k) (a .opened) (omega arith) (omega arith) (c .if1 .taken) in
+    (omega arith, omega arith, λ names e. l .inv .2 names e ∙ other names e)
+
 contents-returns :
     (t : ℕ) →
     contents-lts.Need-returns
@@ -88,14 +122,31 @@ contents-returns :
     contents-Inv-loop
     contents-μ-loop
 contents-returns t c =
-    let l = c .before .before .before .loop in
-    record { begins = l .inv .0; ends = l .inv .1; tag = λ h. c .if1 .taken; passes = l .inv .2 }
+    let l = c .before .before .before .before .loop in
+    record { begins = l .inv .0; ends = l .inv .1; tag = λ h. c .if2 .taken; passes = l .inv .2 }
+
+contents-returns-2 :
+    (t : ℕ) →
+    contents-lts.Need-returns-2
+    (element-below t, element.Post)
+    (contents-at t)
+    contents.Post
+    contents-Inv-loop
+    contents-μ-loop
+contents-returns-2 t c =
+    let a = c .before .before .before .before .before .before .before .before .before .args in
+    let l = c .before .before .before .before .before .loop in
+    let other = c .if3 .taken in
+    let no-end = c .before .if2 .left in
+    λ names e.
+    l .inv .2 names e
+    ∙ breaks-document (a .first .now) (a .second .now) (a .rows .now) (l .k) (a .opened) (omega arith) (omega arith) (omega arith) names e
 
 contents-element-requires : (t : ℕ) → contents-lts.Need-element-requires (
   element-below t,
   element.Post,
 ) (contents-at t) contents.Post contents-Inv-loop contents-μ-loop
-contents-element-requires t c κs = (omega arith, (omega arith, omega arith, c .if2 .taken))
+contents-element-requires t c κs = (omega arith, (omega arith, omega arith, c .if3 .left))
 
 contents-enum-known-after : (t : ℕ) → contents-lts.Need-enum-known-after (
   element-below t,
@@ -113,52 +164,21 @@ contents-enum-told :
     contents-μ-loop
 contents-enum-told t c = search needs
 
-contents-returns-2 :
+contents-returns-3 :
     (t : ℕ) →
-    contents-lts.Need-returns-2
+    contents-lts.Need-returns-3
     (element-below t, element.Post)
     (contents-at t)
     contents.Post
     contents-Inv-loop
     contents-μ-loop
-contents-returns-2 t c =
-    let l = c .before .before .before .before .before .before .before .loop in
-    λ names e. l .inv .2 names e ∙ (rw (c .enum-told .given .1) at (c .before .before .element .ensures)) names e
-
-contents-loop-less :
-    (t : ℕ) →
-    contents-lts.Need-loop-less
-    (element-below t, element.Post)
-    (contents-at t)
-    contents.Post
-    contents-Inv-loop
-    contents-μ-loop
-contents-loop-less t c =
-    let m = rw (c .before .after .given .1) at (c .before .before .before .element .ensures) in
-    omega arith
-
-contents-loop-again :
-    (t : ℕ) →
-    contents-lts.Need-loop-again
-    (element-below t, element.Post)
-    (contents-at t)
-    contents.Post
-    contents-Inv-loop
-    contents-μ-loop
-contents-loop-again t c =
+contents-returns-3 t c =
+    let a = c .before .before .before .before .before .before .before .before .before .before .before .before .args in
     let l = c .before .before .before .before .before .before .before .before .loop in
-    let m = rw (c .before .after .given .1) at (c .before .before .before .element .ensures) in
-    (omega arith, m .ends, λ names e. l .inv .2 names e ∙ m .passes names e)
-
-contents-add-k :
-    (t : ℕ) →
-    contents-lts.Need-add-k
-    (element-below t, element.Post)
-    (contents-at t)
-    contents.Post
-    contents-Inv-loop
-    contents-μ-loop
-contents-add-k t c = omega arith
+    λ names e.
+    l .inv .2 names e
+    ∙ opens-element (a .first .now) (a .second .now) (a .rows .now) (l .k) (a .opened) (omega arith) (omega arith) (c .before .before .before .if3 .left) names e
+    ∙ (rw (c .enum-told .given .1) at (c .before .before .element .ensures)) names e
 
 contents-loop-less-2 :
     (t : ℕ) →
@@ -168,7 +188,9 @@ contents-loop-less-2 :
     contents.Post
     contents-Inv-loop
     contents-μ-loop
-contents-loop-less-2 t c = omega arith
+contents-loop-less-2 t c =
+    let m = rw (c .before .after .given .1) at (c .before .before .before .element .ensures) in
+    omega arith
 
 contents-loop-again-2 :
     (t : ℕ) →
@@ -179,20 +201,26 @@ contents-loop-again-2 :
     contents-Inv-loop
     contents-μ-loop
 contents-loop-again-2 t c =
-    let a = c .before .before .before .before .before .before .before .before .args in
-    let l = c .before .before .before .before .loop in
-    let other = passes-other (a .first .now) (a .second .now) (a .rows .now) (l .k) (a .opened) (omega arith) (c .if2 .left) (c .before .if1 .left) in
-    (omega arith, omega arith, λ names e. l .inv .2 names e ∙ other names e)
+    let a = c .before .before .before .before .before .before .before .before .before .before .before .before .before .args in
+    let l = c .before .before .before .before .before .before .before .before .before .loop in
+    let m = rw (c .before .after .given .1) at (c .before .before .before .element .ensures) in (
+      omega arith,
+      m .ends,
+      λ names e.
+          l .inv .2 names e
+          ∙ opens-element (a .first .now) (a .second .now) (a .rows .now) (l .k) (a .opened) (omega arith) (omega arith) (c .before .before .before .before .if3 .left) names e
+          ∙ m .passes names e,
+    )
 
-contents-returns-3 :
+contents-returns-4 :
     (t : ℕ) →
-    contents-lts.Need-returns-3
+    contents-lts.Need-returns-4
     (element-below t, element.Post)
     (contents-at t)
     contents.Post
     contents-Inv-loop
     contents-μ-loop
-contents-returns-3 t c =
+contents-returns-4 t c =
     let l = c .before .loop in
     record { begins = l .inv .0; ends = l .inv .1; tag = λ h. absurd (omega arith); passes = l .inv .2 }
 
@@ -330,17 +358,18 @@ pub +contents+element-spec : {M : Type 1} → statement M
     (contents-mul-kind t)
     (contents-mul-kind-2 t)
     (contents-shared-slice-read-kind t)
+    (contents-add-k t)
+    (contents-loop-less t)
+    (contents-loop-again t)
     (contents-returns t)
+    (contents-returns-2 t)
     (contents-element-requires t)
     (contents-enum-known-after t)
     (contents-enum-told t)
-    (contents-returns-2 t)
-    (contents-loop-less t)
-    (contents-loop-again t)
-    (contents-add-k t)
+    (contents-returns-3 t)
     (contents-loop-less-2 t)
     (contents-loop-again-2 t)
-    (contents-returns-3 t))
+    (contents-returns-4 t))
     λ t. element-lts.spec
     (contents-below t, contents.Post, same-names-reads.Asked, same-names-reads.Learnt)
     (element-at t)

@@ -1,27 +1,35 @@
+use mathlib.Core.Path.{_∙_}
+use native.Mathlib.Omega.{arith}
 use borrow.Author.Needs.{needs}
-use Rattle.nesting.proofs.Walk.{broken, whole}
+use Rattle.nesting.proofs.Walk.{document-empty, document-begun, document-plain}
 use Rattle.nesting.proofs.document_nests.Statement.{statement}
 use Rattle.nesting.proofs.document_nests.Tie as tie
 
-contents-requires : tie.Need-contents-requires
-contents-requires c κs = search needs
-
-enum-known-end : tie.Need-enum-known-end
-enum-known-end c = search needs
-
-enum-told : tie.Need-enum-told
-enum-told c = search needs
-
 returns : tie.Need-returns
 returns c =
-    let a = c .before .before .before .before .before .before .args in
-    broken (a .first .now) (a .second .now) (a .rows .now) (rw (c .enum-told .given .1) at (c .before .before .contents .ensures))
+    let a = c .before .before .before .before .args in
+    document-empty (a .first .now) (a .second .now) (a .rows .now) (c .if1 .taken)
+
+shared-slice-read-if2 : tie.Need-shared-slice-read-if2
+shared-slice-read-if2 c = search needs
+
+roots-requires : tie.Need-roots-requires
+roots-requires c κs = search needs
 
 returns-2 : tie.Need-returns-2
 returns-2 c =
     let a = c .before .before .before .before .before .before .before .args in
-    whole (a .first .now) (a .second .now) (a .rows .now) _ (rw (c .before .end .given .1) at (c .before .before .before .contents .ensures))
+    c .roots .ensures ∙ document-begun (a .first .now) (a .second .now) (a .rows .now) (omega arith) (c .before .if2 .taken)
+
+roots-requires-2 : tie.Need-roots-requires-2
+roots-requires-2 c κs = search needs
+
+returns-3 : tie.Need-returns-3
+returns-3 c =
+    let a = c .before .before .before .before .before .before .before .args in
+    c .roots2 .ensures ∙ document-plain (a .first .now) (a .second .now) (a .rows .now) (omega arith) (c .before .if2 .left)
 
 pub document-nests-spec : {M : Type 1} → statement M
 document-nests-spec =
-    tie.close (tie.spec contents-requires enum-known-end enum-told returns returns-2)
+    tie.close
+    (tie.spec returns shared-slice-read-if2 roots-requires returns-2 roots-requires-2 returns-3)

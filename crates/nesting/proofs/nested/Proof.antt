@@ -1,7 +1,7 @@
 use mathlib.Core.Path.{sym, _∙_}
 use borrow.Author.Needs.{needs}
 use borrow.Author.Tests.{not-true, not-false}
-use Rattle.nesting.specs.Nesting.{nesting}
+use Rattle.nesting_spec.specs.Nesting.{nesting}
 use Rattle.nesting.proofs.nested.Statement.{statement}
 use Rattle.nesting.proofs.nested.Tie as tie
 

@@ -1,0 +1,6 @@
+pub mod Nesting
+pub mod OnePass
+pub mod Kinds
+pub mod Agreement
+pub mod Laws
+pub mod Runs
