@@ -1,3 +1,5 @@
 mod Choices
 mod Turns
 mod Shapes
+mod ByKind
+mod OneRow

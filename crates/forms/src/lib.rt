@@ -1,16 +1,17 @@
 // Which words form rows, an event and an event list.
 use wire::Command;
 use wire::Type;
-ghost use mathlib.Core.Bool.{cond};
+ghost use mathlib.Core.Bool.{false, cond};
 ghost use mathlib.Core.Path.{_≡_};
-ghost use Prim.Native.Nat.{_+_, _*_, _/_, _≤_};
+ghost use Prim.Native.Nat.{_+_, _*_, _/_, _%_, _≤_};
+ghost use lib.Dec.{eqb};
 ghost use lib.ListN.{length, getD};
 ghost use Rattle.event.specs.Span.{spanIn};
 ghost use Rattle.event.specs.Row.{shape};
-ghost use Rattle.event.specs.Words.{oneOf, zeros, valueForms, attributeForms, rowForms, rowFormsIn, opens, single, listForms, eventForms};
+ghost use Rattle.event.specs.Words.{oneOf, zeros, valueForms, attributeForms, rowFormsIn, rowsForm, opens, single, listForms, eventForms};
 ghost use Rattle.forms.specs.Placed.{insideAt, rowFormsAt};
 
-// One of two answers, without a branch: a list's rows come in no order that a branch could be guessed by.
+// One of two answers, without a branch: attributes come in no order of types that a branch could be guessed by.
 fn choose(first: bool, yes: bool, no: bool) -> bool
     ensures { λ r. ⌜ r ≡ cond first yes no ⌝ }
 {
@@ -86,34 +87,29 @@ fn attribute_forms(named: bool, valued: bool, w: &[u32]) -> bool
     named & value_forms(valued, w)
 }
 
-// The first eight words; inside says that an attribute may stand here.
-fn row_forms(named: bool, valued: bool, inside: bool, w: &[u32]) -> bool
-    requires { ⌜ 8 ≤ length (now w) ⌝ }
-    ensures { λ r. ⌜ r ≡ rowForms named valued inside (now (w .entry)) ⌝ }
-{
-    let kind = w[0];
-    let attribute = choose(
-        kind == Command::ATTRIBUTE,
-        inside & attribute_forms(named, valued, w),
-        false,
-    );
-    let text = choose(
-        kind <= Command::DOC_DECL,
-        (w[4] == Type::STRING) & (valued & unused(w, 1, 3)),
-        attribute,
-    );
-    let tag = choose(kind < Command::TEXT, named & unused(w, 4, 4), text);
-    choose(kind < Command::START_TAG, unused(w, 1, 7), tag)
-}
-
-// The same with the spans looked up in two stores.
+// The first eight words, their spans in two stores; inside says that an attribute may stand here. By the kind there are branches: most rows
+// of a list are of one kind or two, and of an attribute's type the next says nothing.
 fn row_forms_in(first: &[u8], second: &[u8], inside: bool, w: &[u32]) -> bool
     requires { ⌜ 8 ≤ length (now w) ⌝ }
     ensures { λ r. ⌜ r ≡ rowFormsIn (now (first .entry)) (now (second .entry)) inside (now (w .entry)) ⌝ }
 {
-    let named = span_in(first, second, w[1], w[2], w[3]);
-    let valued = span_in(first, second, w[5], w[6], w[7]);
-    row_forms(named, valued, inside, w)
+    let kind = w[0];
+    if kind == Command::ATTRIBUTE {
+        let named = span_in(first, second, w[1], w[2], w[3]);
+        let valued = span_in(first, second, w[5], w[6], w[7]);
+        return inside & attribute_forms(named, valued, w);
+    }
+    if kind < Command::START_TAG {
+        return unused(w, 1, 7);
+    }
+    if kind < Command::TEXT {
+        return span_in(first, second, w[1], w[2], w[3]) & unused(w, 4, 4);
+    }
+    if kind <= Command::DOC_DECL {
+        let valued = span_in(first, second, w[5], w[6], w[7]);
+        return (w[4] == Type::STRING) & (valued & unused(w, 1, 3));
+    }
+    false
 }
 
 // Whether an attribute may stand after a row of this kind.
@@ -126,23 +122,30 @@ fn opens_attributes(kind: u32) -> bool
     kind == Command::ATTRIBUTE
 }
 
-// Whether words form an event list: whole rows, each formed, with every span inside its store.
-pub fn list_forms(first: &[u8], second: &[u8], rows: &[u32]) -> bool
-    ensures { λ r. ⌜ r ≡ listForms (now (first .entry)) (now (second .entry)) (now (rows .entry)) ⌝ }
+// Whether words are whole rows, each formed, with every span inside its store; inside says that an attribute may be the first.
+fn rows_form(first: &[u8], second: &[u8], inside: bool, rows: &[u32]) -> bool
+    ensures { λ r. ⌜ r ≡ cond (eqb (length (now (rows .entry)) % 8) 0) (rowsForm (now (first .entry)) (now (second .entry)) inside (length (now (rows .entry)) / 8) (now (rows .entry))) false ⌝ }
 {
     if rows.len() % 8 != 0 {
         return false;
     }
     let mut at = 0;
-    let mut inside = false;
+    let mut within = inside;
     while at < rows.len() {
-        if !row_forms_in(first, second, inside, &rows[at..]) {
+        if !row_forms_in(first, second, within, &rows[at..]) {
             return false;
         }
-        inside = opens_attributes(rows[at]);
+        within = opens_attributes(rows[at]);
         at += 8;
     }
     true
+}
+
+// Whether words form an event list.
+pub fn list_forms(first: &[u8], second: &[u8], rows: &[u32]) -> bool
+    ensures { λ r. ⌜ r ≡ listForms (now (first .entry)) (now (second .entry)) (now (rows .entry)) ⌝ }
+{
+    rows_form(first, second, false, rows)
 }
 
 // Whether an attribute may stand at this row.
@@ -162,7 +165,7 @@ pub fn row_forms_at(first: &[u8], second: &[u8], rows: &[u32], row: usize) -> bo
 {
     if row < rows.len() / 8 {
         let at = 8 * row;
-        return row_forms_in(first, second, inside_at(rows, row), &rows[at..]);
+        return rows_form(first, second, inside_at(rows, row), &rows[at..at + 8]);
     }
     false
 }

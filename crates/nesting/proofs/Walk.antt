@@ -1,7 +1,7 @@
 -- The rows one at a time, as the code reads them: what stands at row k decides how nesting goes on.
 use mathlib.Core.Bool.{Bool, true, false, _&&_}
-use mathlib.Core.List.{List, [], _∷_, map}
-use mathlib.Core.Path.{_≡_, refl, sym, ap, _∙_}
+use mathlib.Core.List.{List, [], _∷_}
+use mathlib.Core.Path.{_≡_, sym, ap, _∙_}
 use Prim.Native.Nat.{ℕ, suc, _+_, _-_, _*_, _/_, _≤_, _<_}
 use native.Mathlib.Nat.{add-zero, sub-zero}
 use native.Mathlib.Omega.{arith}
@@ -10,7 +10,7 @@ use lib.Dec.{eqb, leb}
 use lib.ListN.{length, getD, drop}
 use lib.Seq.{drop-drop, getD-drop}
 use Rattle.wire.specs.Token.{startDocument, endDocument, startTag, endTag, ignorableWhitespace, docDecl}
-use Rattle.event.specs.Span.{span, same}
+use Rattle.event.specs.Span.{same}
 use Rattle.event.specs.Laws.{both, same-refl}
 use Rattle.event.specs.Row.{Row, hasName, rowAt, rowsAt}
 use Rattle.grammar.specs.Choice.{byTest}

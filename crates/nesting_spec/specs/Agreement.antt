@@ -2,7 +2,7 @@
 use mathlib.Core.Bool.{Bool, true, false, cond, _&&_, and-assoc}
 use mathlib.Core.List.{List, [], _∷_, _++_, map}
 use mathlib.Core.Path.{_≡_, refl, sym, _∙_}
-use Prim.Native.Nat.{ℕ, zero, suc, _-_, _<_}
+use Prim.Native.Nat.{ℕ, suc, _-_, _<_}
 use native.Mathlib.Omega.{arith}
 use borrow.Author.Tests.{leb-true, lt-leb, eqb-true, eqb-false, ne-eqb}
 use lib.Dec.{ltb, leb, eqb}
@@ -12,7 +12,7 @@ use Rattle.event.specs.Span.{same}
 use Rattle.event.specs.Row.{Row}
 use Rattle.grammar.specs.Choice.{byTest}
 use Rattle.nesting_spec.specs.Nesting.{Name, depth, after, innermost, fits, balanced, outer, count, among, allAmong, mayStand, kinds, endsLast, every, document}
-use Rattle.nesting_spec.specs.OnePass.{Tag, outside, tagOf, none, nested, rooted, begun, passes}
+use Rattle.nesting_spec.specs.OnePass.{outside, tagOf, none, nested, rooted, begun, passes}
 use Rattle.nesting_spec.specs.Kinds.{by-kind, begun-kept, tag-begins, tag-ends, tag-start, tag-end, tag-anywhere, tag-inside}
 
 -- the rules for the rows after some others, where these tags are open and so many outermost elements are to come

@@ -1,11 +1,10 @@
 -- A row's tag by its kind.
-use mathlib.Core.Bool.{Bool, true, false}
+use mathlib.Core.Bool.{true, false}
 use mathlib.Core.List.{List, _∷_}
-use mathlib.Core.Path.{_≡_, refl, sym, ap, _∙_}
+use mathlib.Core.Path.{_≡_, refl, _∙_}
 use Prim.Native.Nat.{ℕ, zero, suc, _<_}
 use native.Mathlib.Omega.{arith}
 use borrow.Author.Tests.{ne-eqb}
-use lib.Dec.{leb, eqb}
 use Rattle.wire.specs.Token.{startDocument, endDocument, startTag, endTag}
 use Rattle.event.specs.Row.{Row}
 use Rattle.grammar.specs.Choice.{byTest}

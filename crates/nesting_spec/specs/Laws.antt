@@ -1,7 +1,7 @@
 -- Nesting by its grammar: a document is StartDocument or not, what may stand outside, one element, what may stand outside, EndDocument or
 -- not; contents hold elements, and each element holds contents. `document` decides it.
 use mathlib.Core.Bool.{true, false≢true}
-use mathlib.Core.List.{List, [], _∷_, _++_, map, append-assoc, append-nil}
+use mathlib.Core.List.{List, [], _∷_, _++_, map, append-assoc}
 use mathlib.Core.Path.{_≡_, refl, sym, ap, subst, _∙_}
 use Prim.Native.Nat.{ℕ, zero, suc, _+_}
 use native.Mathlib.Omega.{arith}

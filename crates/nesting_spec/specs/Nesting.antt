@@ -2,7 +2,7 @@
 -- StartDocument only as the first event, EndDocument only as the last; and the rules on names and depth.
 use mathlib.Core.Bool.{Bool, true, false, cond, _&&_}
 use mathlib.Core.List.{List, [], _∷_, map}
-use Prim.Native.Nat.{ℕ, zero, suc, _-_, _/_}
+use Prim.Native.Nat.{ℕ, suc, _-_, _/_}
 use lib.Dec.{ltb, eqb}
 use lib.ListN.{length, take, drop}
 use Rattle.wire.specs.Refusal.{notRows}
@@ -37,7 +37,8 @@ unfoldable pub balanced : List Row → List Name → Bool
 balanced [] opened = eqb (length opened) 0
 balanced (r ∷ rest) opened = fits r opened && balanced rest (after r opened)
 
--- the kinds of the rows that stand where no tag is open: the start tag of each outermost element, and what stands outside
+-- the kinds of the rows that stand where no tag is open: the start tag of each outermost element, and what stands outside. An attribute's row comes
+-- after its start tag, so it is not among them
 unfoldable pub outer : List Row → List Name → List ℕ
 outer [] opened = []
 outer (r ∷ rest) [] = r .kind ∷ outer rest (after r [])
@@ -65,6 +66,7 @@ mayStand = startTag ∷ startDocument ∷ endDocument ∷ comment ∷ processing
 abbrev pub oneRoot : List Row → Bool
 oneRoot rows = eqb (count startTag (outer rows [])) 1
 
+-- outside it only those
 abbrev pub onlyOutside : List Row → Bool
 onlyOutside rows = allAmong (outer rows []) mayStand
 
@@ -83,6 +85,7 @@ unfoldable pub every : List Bool → Bool
 every [] = true
 every (b ∷ rest) = b && every rest
 
+-- all the rules
 unfoldable pub document : List Row → Bool
 document rows = every (balanced rows [] ∷ oneRoot rows ∷ onlyOutside rows ∷ startsFirst rows ∷ endsLast rows ∷ [])
 

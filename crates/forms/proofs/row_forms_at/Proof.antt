@@ -1,7 +1,9 @@
-use Prim.Native.Nat.{_*_}
-use Rattle.forms.proofs.Turns.{to-end}
-use Rattle.forms.specs.Placed.{rowFormsAt}
+use mathlib.Core.Path.{_∙_}
+use Prim.Native.Nat.{_+_, _-_, _*_}
+use native.Mathlib.Omega.{arith}
 use borrow.Author.Tests.{lt-ltb, le-ltb}
+use Rattle.forms.specs.Placed.{rowFormsAt}
+use Rattle.forms.proofs.OneRow.{one-row}
 use borrow.Author.Needs.{needs}
 use Rattle.forms.proofs.row_forms_at.Statement.{statement}
 use Rattle.forms.proofs.row_forms_at.Tie as tie
@@ -12,26 +14,30 @@ mul-at c = search needs
 inside-at-requires : tie.Need-inside-at-requires
 inside-at-requires c κs = search needs
 
-mul-row-forms-in : tie.Need-mul-row-forms-in
-mul-row-forms-in c = search needs
+add-rows-form : tie.Need-add-rows-form
+add-rows-form c = search needs
 
-sub-row-forms-in : tie.Need-sub-row-forms-in
-sub-row-forms-in c = search needs
+mul-rows-form : tie.Need-mul-rows-form
+mul-rows-form c = search needs
 
-part-row-forms-in-start : tie.Need-part-row-forms-in-start
-part-row-forms-in-start c = search needs
+sub-rows-form : tie.Need-sub-rows-form
+sub-rows-form c = search needs
 
-part-row-forms-in-end : tie.Need-part-row-forms-in-end
-part-row-forms-in-end c = search needs
+part-rows-form-start : tie.Need-part-rows-form-start
+part-rows-form-start c = search needs
 
-row-forms-in-requires : tie.Need-row-forms-in-requires
-row-forms-in-requires c κs = search needs
+part-rows-form-end : tie.Need-part-rows-form-end
+part-rows-form-end c = search needs
+
+rows-form-requires : tie.Need-rows-form-requires
+rows-form-requires c κs = search needs
 
 returns : tie.Need-returns
 unfolding rowFormsAt
 returns c =
     let a = c .before .before .before .before .before .before .before .args in
-    rw (lt-ltb _ _ (c .before .before .before .if1 .taken), ← c .before .before .inside-at .ensures, ← to-end (a .rows .now) (8 * a .row)) (c .row-forms-in .ensures)
+    rw (lt-ltb _ _ (c .before .before .before .if1 .taken), ← c .before .before .inside-at .ensures)
+    (c .rows-form .ensures ∙ one-row (a .first .now) (a .second .now) (c .before .before .inside-at .result) (a .rows .now) (8 * a .row) (8 * a .row + 8 - 8 * a .row) (omega arith) (omega arith))
 
 returns-2 : tie.Need-returns-2
 unfolding rowFormsAt
@@ -43,10 +49,11 @@ row-forms-at-spec =
     (tie.spec
     mul-at
     inside-at-requires
-    mul-row-forms-in
-    sub-row-forms-in
-    part-row-forms-in-start
-    part-row-forms-in-end
-    row-forms-in-requires
+    add-rows-form
+    mul-rows-form
+    sub-rows-form
+    part-rows-form-start
+    part-rows-form-end
+    rows-form-requires
     returns
     returns-2)
