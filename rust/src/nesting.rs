@@ -38,8 +38,8 @@ pub fn nested(events: &[Event]) -> Result<bool> {
     list.clear(events.len());
     list.words.reserve_exact(ROW * events.len());
     for event in events {
-        // An attribute stands in its start tag, and no text is looked at: so kinds and names are all that counts. Where names come to 4 GiB they
-        // have no span.
+        // Attributes have no part in it, which is proved, and no text is looked at: kinds and names are all that counts. Where names come to 4 GiB
+        // they have no span.
         list.push_outline(event).map_err(|_| AbxError::NamesFull)?;
     }
     checked::nested(&list.store, &list.words)

@@ -3,4 +3,5 @@ pub mod OnePass
 pub mod Kinds
 pub mod Agreement
 pub mod Laws
+pub mod Outline
 pub mod Runs
