@@ -1,14 +1,15 @@
--- What callers may cite of equal bytes and equal rows (`same` and `sameRow` decide equality), and of spans.
+-- What callers may cite of equal bytes and equal rows (`same` and `sameRow` decide equality), of spans, and of a row's words.
 use mathlib.Core.Bool.{Bool, true, false, _&&_, cond, false≢true}
 use mathlib.Core.List.{List, [], _∷_}
 use mathlib.Core.Path.{_≡_, refl, ap}
-use Prim.Native.Nat.{ℕ, _+_, _≤_}
+use Prim.Native.Nat.{ℕ, _+_, _≤_, _<_}
 use native.Mathlib.Omega.{arith}
 use borrow.Author.Tests.{eqb-true, eq-eqb}
 use lib.Dec.{leb, eqb}
-use lib.ListN.{length, take, drop, length-take}
+use lib.ListN.{length, getD, take, drop, length-take}
+use lib.Seq.{getD-take}
 use Rattle.event.specs.Span.{part, span, same}
-use Rattle.event.specs.Row.{Value, nothing, bytes, word, pair, Row, sameValue, sameRow}
+use Rattle.event.specs.Row.{Value, nothing, bytes, word, pair, Row, rowAt, sameValue, sameRow}
 
 -- both sides of a conjunction that holds
 pub both : (a b : Bool) → (a && b) ≡ true → (a ≡ true) × (b ≡ true)
@@ -94,3 +95,11 @@ span-short first second source start len = go (eqb source 0) (eqb source 1)
     go true t = part-short first start len
     go false true = part-short second start len
     go false false = omega arith
+
+-- the first eight words are all that a row is made of
+pub row-of-eight : (first second w : List ℕ) → rowAt first second (take 8 w) ≡ rowAt first second w
+unfolding rowAt
+row-of-eight first second w = rw (at 0 (omega arith), at 1 (omega arith), at 2 (omega arith), at 3 (omega arith), at 4 (omega arith), at 5 (omega arith), at 6 (omega arith), at 7 (omega arith))
+  where
+    at : (i : ℕ) → i < 8 → getD (take 8 w) i 0 ≡ getD w i 0
+    at i h = getD-take 8 w i 0 h

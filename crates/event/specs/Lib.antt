@@ -2,3 +2,4 @@ pub mod Span
 pub mod Row
 pub mod Words
 pub mod Laws
+pub mod Attributes

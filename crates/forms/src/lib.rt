@@ -87,8 +87,8 @@ fn attribute_forms(named: bool, valued: bool, w: &[u32]) -> bool
     named & value_forms(valued, w)
 }
 
-// The first eight words, their spans in two stores; inside says that an attribute may stand here. By the kind there are branches: most rows
-// of a list are of one kind or two, and of an attribute's type the next says nothing.
+// The first eight words, their spans in two stores; inside says that an attribute may stand here. Kinds are told apart by branches, since
+// rows of a kind come in runs; types are not.
 fn row_forms_in(first: &[u8], second: &[u8], inside: bool, w: &[u32]) -> bool
     requires { ⌜ 8 ≤ length (now w) ⌝ }
     ensures { λ r. ⌜ r ≡ rowFormsIn (now (first .entry)) (now (second .entry)) inside (now (w .entry)) ⌝ }

@@ -96,7 +96,7 @@ pub data Answer : Type 0 where
   no : Answer
   refused : ℕ → ℕ → Answer
 
--- whether words of rows, their spans in two stores, nest; 16 for words that form no event list
+-- whether words of rows, their spans in two stores, are one nested document; 16 for words that form no event list
 unfoldable pub nesting : List ℕ → List ℕ → List ℕ → Answer
 nesting first second w =
     cond (listForms first second w) (cond (document (rowsAt first second (length w / 8) w)) yes no) (refused notRows 0)

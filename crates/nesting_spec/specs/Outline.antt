@@ -1,16 +1,17 @@
 -- Attributes have no part in nesting: without them a list nests as it does with them.
-use mathlib.Core.Bool.{Bool, true, false, cond, _&&_, false≢true}
+use mathlib.Core.Bool.{Bool, true, false, cond, _||_, not, false≢true}
 use mathlib.Core.List.{List, [], _∷_, map}
 use mathlib.Core.Path.{_≡_, refl, sym, _∙_}
-use Prim.Native.Nat.{ℕ, zero, suc, _/_, _%_, _<_}
+use Prim.Native.Nat.{ℕ, _/_, _<_}
 use native.Mathlib.Omega.{arith}
 use borrow.Author.Tests.{eqb-true, eqb-false, ne-eqb}
 use lib.Dec.{eqb}
-use lib.ListN.{length, getD, drop}
+use lib.ListN.{length}
 use Rattle.wire.specs.Token.{startDocument, endDocument, startTag, endTag, attribute}
 use Rattle.event.specs.Laws.{both}
-use Rattle.event.specs.Row.{Row, rowAt, rowsAt}
-use Rattle.event.specs.Words.{opens, rowForms, rowFormsIn, rowsForm, listForms}
+use Rattle.event.specs.Row.{Row, rowsAt}
+use Rattle.event.specs.Words.{opens, listForms}
+use Rattle.event.specs.Attributes.{placed, list-placed}
 use Rattle.grammar.specs.Choice.{byTest}
 use Rattle.nesting_spec.specs.Nesting.{Name, document}
 use Rattle.nesting_spec.specs.OnePass.{Tag, outside, tagOf, none, nested, rooted, begun, passes}
@@ -20,11 +21,6 @@ use Rattle.nesting_spec.specs.Agreement.{document-passes}
 unfoldable pub withoutAttributes : List Row → List Row
 withoutAttributes [] = []
 withoutAttributes (r ∷ rest) = cond (eqb (r .kind) attribute) (withoutAttributes rest) (r ∷ withoutAttributes rest)
-
--- each attribute comes after a start tag or another attribute; `after` says that the first row may be one
-unfoldable pub placed : Bool → List Row → Bool
-placed after [] = true
-placed after (r ∷ rest) = cond (eqb (r .kind) attribute) after true && placed (opens (r .kind)) rest
 
 -- ---- one row
 
@@ -37,38 +33,33 @@ module _ (r : Row) (rest : List Row) where
   unfolding withoutAttributes
   left-out e = rw e
 
-  placed-next : (after : Bool) → placed after (r ∷ rest) ≡ true → placed (opens (r .kind)) rest ≡ true
+  placed-next : (inside : Bool) → placed inside (r ∷ rest) ≡ true → placed (opens (r .kind)) rest ≡ true
   unfolding placed
-  placed-next after h = both (cond (eqb (r .kind) attribute) after true) (placed (opens (r .kind)) rest) h .1
+  placed-next inside h = both (not (eqb (r .kind) attribute) || inside) (placed (opens (r .kind)) rest) h .1
 
-  placed-under : (after : Bool) → r .kind ≡ attribute → placed after (r ∷ rest) ≡ true → after ≡ true
+  placed-under : (inside : Bool) → r .kind ≡ attribute → placed inside (r ∷ rest) ≡ true → inside ≡ true
   unfolding placed
-  placed-under after e h = both after (placed (opens attribute) rest) (rw e at h) .0
+  placed-under inside e h = both inside (placed (opens attribute) rest) (rw e at h) .0
 
-  not-attribute : (k : ℕ) → r .kind ≡ k → k < attribute → eqb (r .kind) attribute ≡ false
-  not-attribute k e h = ne-eqb (r .kind) attribute (λ a. omega arith)
+-- the first row of a list is no attribute
+first-kept : (r : Row) (rest : List Row) → placed false (r ∷ rest) ≡ true → eqb (r .kind) attribute ≡ false
+first-kept r rest p =
+    byTest (eqb (r .kind) attribute) (λ e. absurd (false≢true (placed-under r rest false (eqb-true (r .kind) attribute e) p))) (λ e. e)
 
 -- no row follows, with attributes or without
 none-kept : (rest : List Row) → placed false rest ≡ true → none (map tagOf (withoutAttributes rest)) ≡ none (map tagOf rest)
 unfolding none
-none-kept [] h = unfold withoutAttributes in refl
-none-kept (r ∷ rest) h =
-    byTest (eqb (r .kind) attribute)
-    (λ e. absurd (false≢true (placed-under r rest false (eqb-true (r .kind) attribute e) h)))
-    (λ e. rw (kept r rest e))
+none-kept [] p = unfold withoutAttributes in refl
+none-kept (r ∷ rest) p = rw (kept r rest (first-kept r rest p))
 
--- an attribute is passed over where a tag is open
-abbrev Some : Bool → List Name → Type 0
-Some after names = after ≡ true → 0 < length names
-
-passed : (r : Row) → r .kind ≡ attribute → (tags : List Tag) (m : Name) (names : List Name) → nested (tagOf r ∷ tags) (m ∷ names) ≡ nested tags (m ∷ names)
-unfolding nested
-passed r e tags m names = rw (tag-inside r (omega arith) (rw e))
-
--- after a row that is neither no attribute may stand
+-- no attribute may stand after a row that is neither a start tag nor an attribute
 closed : (r : Row) → (r .kind ≡ startTag → ⊥) → eqb (r .kind) attribute ≡ false → opens (r .kind) ≡ false
 unfolding opens
 closed r s e = rw (ne-eqb (r .kind) startTag s, e)
+
+-- where an attribute may stand a tag is open
+abbrev Some : Bool → List Name → Type 0
+Some inside names = inside ≡ true → 0 < length names
 
 -- a row that stays, before tags that nest alike
 module _ (r : Row) (stays : eqb (r .kind) attribute ≡ false) (a b : List Tag) (alike : (names : List Name) → Some (opens (r .kind)) names → nested a names ≡ nested b names) where
@@ -112,31 +103,25 @@ module _ (r : Row) (stays : eqb (r .kind) attribute ≡ false) (a b : List Tag) 
       (λ o. rw (tag-anywhere r h o) (q h))
       (λ o. rw (tag-inside r h o)))
 
-under : (r : Row) (rest : List Row) (after : Bool) (names : List Name) → r .kind ≡ attribute → placed after (r ∷ rest) ≡ true → Some after names
+-- an attribute is passed over
+under : (r : Row) (rest : List Row) (inside : Bool) (names : List Name) → r .kind ≡ attribute → placed inside (r ∷ rest) ≡ true → Some inside names
     → nested (map tagOf rest) names ≡ nested (map tagOf (r ∷ rest)) names
-under r rest after [] e p s = absurd (let some = s (placed-under r rest after e p) in omega arith)
-under r rest after (m ∷ names) e p s = sym (passed r e (map tagOf rest) m names)
+unfolding nested
+under r rest inside [] e p s = absurd (let some = s (placed-under r rest inside e p) in omega arith)
+under r rest inside (m ∷ names) e p s = rw (tag-inside r (omega arith) (rw e))
 
-nested-kept : (rows : List Row) (after : Bool) (names : List Name) → placed after rows ≡ true → Some after names
+nested-kept : (rows : List Row) (inside : Bool) (names : List Name) → placed inside rows ≡ true → Some inside names
     → nested (map tagOf (withoutAttributes rows)) names ≡ nested (map tagOf rows) names
-nested-kept [] after names p s = unfold withoutAttributes in refl
-nested-kept (r ∷ rest) after names p s =
+nested-kept [] inside names p s = unfold withoutAttributes in refl
+nested-kept (r ∷ rest) inside names p s =
     byTest (eqb (r .kind) attribute)
     (λ b.
     let e = eqb-true (r .kind) attribute b in
-    rw (left-out r rest e) (nested-kept rest (opens (r .kind)) names (placed-next r rest after p) (λ o. s (placed-under r rest after e p)) ∙ under r rest after names e p s))
+    rw (left-out r rest e) (nested-kept rest (opens (r .kind)) names (placed-next r rest inside p) (λ o. s (placed-under r rest inside e p)) ∙ under r rest inside names e p s))
     (λ b.
     rw (kept r rest b)
-    (step r b (map tagOf (withoutAttributes rest)) (map tagOf rest) (λ more q. nested-kept rest (opens (r .kind)) more (placed-next r rest after p) q) names
-    (λ e. none-kept rest (rw (ends-closed r e) at (placed-next r rest after p)))))
-  where
-    ends-closed : (r : Row) → r .kind ≡ endDocument → opens (r .kind) ≡ false
-    ends-closed r e = unfold opens in rw e
-
--- the first row is no attribute
-first-kept : (r : Row) (rest : List Row) → placed false (r ∷ rest) ≡ true → eqb (r .kind) attribute ≡ false
-first-kept r rest p =
-    byTest (eqb (r .kind) attribute) (λ e. absurd (false≢true (placed-under r rest false (eqb-true (r .kind) attribute e) p))) (λ e. e)
+    (step r b (map tagOf (withoutAttributes rest)) (map tagOf rest) (λ more q. nested-kept rest (opens (r .kind)) more (placed-next r rest inside p) q) names
+    (λ e. none-kept rest (rw (closed r (λ q. omega arith) b) at (placed-next r rest inside p)))))
 
 rooted-kept : (rows : List Row) → placed false rows ≡ true → rooted (map tagOf (withoutAttributes rows)) ≡ rooted (map tagOf rows)
 rooted-kept [] p = unfold withoutAttributes in refl
@@ -159,31 +144,10 @@ document-kept (r ∷ rest) p =
     let e = eqb-true (r .kind) startDocument b in
     rw (tag-begins r e) (rooted-kept rest (rw (closed r (λ q. omega arith) stays) at (placed-next r rest false p))))
     (λ b.
-    let not = eqb-false (r .kind) startDocument b in
-    rw (begun-kept r (map tagOf (withoutAttributes rest)) not, begun-kept r (map tagOf rest) not) (rw (kept r rest stays) at (rooted-kept (r ∷ rest) p))))
+    let other = eqb-false (r .kind) startDocument b in
+    rw (begun-kept r (map tagOf (withoutAttributes rest)) other, begun-kept r (map tagOf rest) other) (rw (kept r rest stays) at (rooted-kept (r ∷ rest) p))))
     ∙ sym (document-passes (r ∷ rest))
 
--- ---- of words that form an event list
-
-module _ (first second : List ℕ) where
-  attribute-inside : (inside : Bool) (w : List ℕ) → getD w 0 0 ≡ attribute → rowFormsIn first second inside w ≡ true → inside ≡ true
-  unfolding rowFormsIn rowForms
-  attribute-inside inside w e h = both inside _ (rw e at h) .0
-
-  formed-placed : (n : ℕ) (inside : Bool) (w : List ℕ) → rowsForm first second inside n w ≡ true → placed inside (rowsAt first second n w) ≡ true
-  unfolding placed rowsForm rowsAt rowAt
-  formed-placed zero inside w h = refl
-  formed-placed (suc n) inside w h =
-      let parts = both (rowFormsIn first second inside w) (rowsForm first second (opens (getD w 0 0)) n (drop 8 w)) h in
-      rw (formed-placed n (opens (getD w 0 0)) (drop 8 w) (parts .1))
-      (byTest (eqb (getD w 0 0) attribute)
-      (λ b. rw (b, attribute-inside inside w (eqb-true (getD w 0 0) attribute b) (parts .0)))
-      (λ b. rw b))
-
-  pub outline : (w : List ℕ) → listForms first second w ≡ true
-      → document (withoutAttributes (rowsAt first second (length w / 8) w)) ≡ document (rowsAt first second (length w / 8) w)
-  unfolding listForms
-  outline w h =
-      byTest (eqb (length w % 8) 0)
-      (λ b. document-kept (rowsAt first second (length w / 8) w) (formed-placed (length w / 8) false w (rw b at h)))
-      (λ b. absurd (false≢true (rw b at h)))
+pub outline : (first second w : List ℕ) → listForms first second w ≡ true
+    → document (withoutAttributes (rowsAt first second (length w / 8) w)) ≡ document (rowsAt first second (length w / 8) w)
+outline first second w h = document-kept (rowsAt first second (length w / 8) w) (list-placed first second w h)

@@ -5,11 +5,12 @@ use mathlib.Core.Path.{_≡_, refl, sym, ap, _∙_}
 use Prim.Native.Nat.{ℕ, zero, suc, _+_, _*_, _≤_}
 use native.Mathlib.Omega.{arith}
 use lib.ListN.{length, take, drop, length-append, length-drop, List·getD-append, take-append-drop}
-use lib.Seq.{sets, sets-eq, drop-at, drop-append-le, drop-drop, length-take-le, getD-take}
+use lib.Seq.{sets, sets-eq, drop-at, drop-append-le, drop-drop, length-take-le}
 use lib.Dec.{eqb}
 use Rattle.wire.specs.Token.{startTag}
 use Rattle.event.specs.Span.{same}
 use Rattle.event.specs.Row.{Row, Event, rowAt, rowsAt}
+use Rattle.event.specs.Laws.{row-of-eight}
 use Rattle.grammar.specs.Choice.{cond-by}
 use Rattle.slice_spec.specs.Queries.{Query, find-attribute, attributes-of, find-all-attributes, all-attributes-of, Words, split, named, isElement, allNamed, firstNamed, picks, picked, concat}
 
@@ -118,25 +119,10 @@ concat-length (w ∷ ws) h = omega (arith, length-append w (concat ws), h .0, co
 -- ---- rows among words
 
 module _ (document : List ℕ) where
-  -- a row is said by its first eight words
-  row-take : (w : List ℕ) → rowAt document [] (take 8 w) ≡ rowAt document [] w
-  unfolding rowAt
-  row-take w =
-      rw (
-        getD-take 8 w 0 0 (omega arith),
-        getD-take 8 w 1 0 (omega arith),
-        getD-take 8 w 2 0 (omega arith),
-        getD-take 8 w 3 0 (omega arith),
-        getD-take 8 w 4 0 (omega arith),
-        getD-take 8 w 5 0 (omega arith),
-        getD-take 8 w 6 0 (omega arith),
-        getD-take 8 w 7 0 (omega arith),
-      )
-
   pub split-says : (n : ℕ) (w : List ℕ) → map (rowAt document []) (split n w) ≡ rowsAt document [] n w
   unfolding split rowsAt
   split-says zero w = refl
-  split-says (suc n) w = rw (row-take w, split-says n (drop 8 w))
+  split-says (suc n) w = rw (row-of-eight document [] w, split-says n (drop 8 w))
 
   row-front : (x y : List ℕ) → 8 ≤ length x → rowAt document [] (x ++ y) ≡ rowAt document [] x
   unfolding rowAt

@@ -23,7 +23,8 @@ use Rattle.xml_spec.specs.Chars.{legal}
 use Rattle.xml_spec.specs.ToXml.{ofRow, refusal, Left, wrote, refused, unless, toXml}
 use Rattle.xml_spec.specs.Rows.{rowsXml, rowFault, endRefusal, rowsRefusal, rowText, rowRefusal, rowToXml}
 use Rattle.xml_spec.specs.Laws.{prints}
-use Rattle.xml_spec.specs.Joined.{rows-joined, rows-refused, list-placed}
+use Rattle.event.specs.Attributes.{list-placed}
+use Rattle.xml_spec.specs.Joined.{rows-joined, rows-refused}
 use Rattle.xml.specs.Passes.{told}
 
 pub told-some : (number : ℕ) → (number ≡ 0 → ⊥) → told number ≡ some (number, 0)

@@ -8,7 +8,7 @@ use native.Mathlib.Omega.{arith}
 use borrow.Author.Tests.{lt-ltb, le-ltb, ltb-true, ltb-false, leb-true, leb-false}
 use lib.Dec.{ltb, leb, eqb}
 use lib.ListN.{length, getD, take, drop, length-drop}
-use lib.Seq.{drop-cons, drop-drop, getD-drop, getD-take}
+use lib.Seq.{drop-cons, drop-drop, getD-drop}
 use Rattle.wire.specs.Refusal.{invalidUtf8, illegalChar}
 use Rattle.utf8.specs.Utf8.{wellFormed}
 use Rattle.event.specs.Row.{Row, rowAt, rowsAt}
@@ -24,15 +24,6 @@ use Rattle.xml.specs.declared.Turn.{Turn}
 use Rattle.xml.specs.declared.Turn.the-variants as Turn
 
 -- ---- words
-
-take-getD : (l : List ℕ) (i n : ℕ) → i < n → getD (take n l) i 0 ≡ getD l i 0
-take-getD l i n h = getD-take n l i 0 h
-
--- the first eight words are all that a row is made of
-pub row-of-eight : (first second l : List ℕ) → rowAt first second (take 8 l) ≡ rowAt first second l
-unfolding rowAt
-row-of-eight first second l =
-    rw (take-getD l 0 8 (omega arith), take-getD l 1 8 (omega arith), take-getD l 2 8 (omega arith), take-getD l 3 8 (omega arith), take-getD l 4 8 (omega arith), take-getD l 5 8 (omega arith), take-getD l 6 8 (omega arith), take-getD l 7 8 (omega arith))
 
 -- so many words from a place on, one by one
 wordsFrom : List ℕ → ℕ → ℕ → List ℕ

@@ -1,6 +1,5 @@
 -- The turns of the two passes.
 use mathlib.Core.Bool.{Bool}
-use mathlib.Core.Option.{none}
 use mathlib.Core.List.{List, []}
 use mathlib.Core.Path.{_≡_, sym, ap, _∙_, subst}
 use Prim.Native.Nat.{ℕ, _+_, _/_, _≤_}

@@ -1,51 +1,28 @@
 -- Row by row and event by event are the same, where attributes stand only after a start tag or another attribute.
-use mathlib.Core.Bool.{Bool, true, false, _&&_, _||_, not, cond, and-eq-true-iff, and-assoc, and-true, false≢true}
+use mathlib.Core.Bool.{Bool, true, false, _&&_, _||_, not, cond, and-eq-true-iff, and-assoc, and-true}
 use mathlib.Core.Option.{none}
 use mathlib.Core.List.{List, [], _∷_, _++_, append-assoc, append-nil}
 use mathlib.Core.Path.{_≡_, refl, sym, ap, _∙_}
-use Prim.Native.Nat.{ℕ, zero, suc, _+_, _/_, _%_}
+use Prim.Native.Nat.{ℕ, _+_}
 use native.Mathlib.Nat.{add-assoc}
 use borrow.Author.Tests.{eqb-true}
-use lib.ListN.{length, length-append, drop, getD}
+use lib.ListN.{length, length-append}
 use lib.Dec.{eqb, ltb}
 use Rattle.wire.specs.Refusal.{invalidUtf8, outputFull, illegalChar}
 use Rattle.wire.specs.Token as Token
 use Rattle.utf8.specs.Utf8.{wellFormed}
-use Rattle.event.specs.Row.{Row, Event, rowAt, rowsAt}
-use Rattle.event.specs.Words.{opens, rowForms, rowFormsIn, rowsForm, listForms}
+use Rattle.event.specs.Row.{Row, Event}
+use Rattle.event.specs.Words.{opens}
+use Rattle.event.specs.Attributes.{placed}
 use Rattle.grammar.specs.Choice.{byTest}
 use Rattle.writer_spec.specs.Faults.{glue, group}
 use Rattle.writer_spec.specs.Events.{glue-first}
-use Rattle.writer_spec.specs.Writer.{Refusal, _before_, refuseIf, rowsIn, ends}
+use Rattle.writer_spec.specs.Writer.{Refusal, _before_, refuseIf, ends}
 use Rattle.text.specs.Ascii.{ascii}
 use Rattle.xml_spec.specs.Chars.{legal}
 use Rattle.xml_spec.specs.Xml.{attributeXml, attributesXml, eventXml, xml}
 use Rattle.xml_spec.specs.ToXml.{ofRow, ofEvent, eventsRefusal}
 use Rattle.xml_spec.specs.Rows.{rowXml, rowsXml, endRefusal, rowsRefusal}
-
--- ---- where attributes stand
-
--- each attribute may stand where it does; `inside` says whether one may stand first
-unfoldable pub placed : Bool → List Row → Bool
-placed inside [] = true
-placed inside (r ∷ rs) = (not (eqb (r .kind) Token.attribute) || inside) && placed (opens (r .kind)) rs
-
--- rows that form do
-row-placed : (first second : List ℕ) (inside : Bool) (w : List ℕ) → rowFormsIn first second inside w ≡ true
-    → (not (eqb (getD w 0 0) Token.attribute) || inside) ≡ true
-unfolding rowFormsIn rowForms
-row-placed first second true w h = byTest (eqb (getD w 0 0) Token.attribute) (λ a. rw a) (λ a. rw a)
-row-placed first second false w h =
-    byTest (eqb (getD w 0 0) Token.attribute)
-    (λ a. let no : rowFormsIn first second false w ≡ false = rw (eqb-true (getD w 0 0) 15 a) in absurd (false≢true (sym no ∙ h)))
-    (λ a. rw a)
-
-pub form-placed : (first second : List ℕ) (inside : Bool) (n : ℕ) (w : List ℕ) → rowsForm first second inside n w ≡ true → placed inside (rowsAt first second n w) ≡ true
-unfolding rowsForm placed rowsAt rowAt
-form-placed first second inside zero w h = refl
-form-placed first second inside (suc n) w h =
-    let both = and-eq-true-iff (rowFormsIn first second inside w) _ .0 h in
-    rw (row-placed first second inside w (both .0)) (form-placed first second (opens (getD w 0 0)) n (drop 8 w) (both .1))
 
 -- ---- text
 
@@ -202,10 +179,3 @@ rows-joined rs p = parts-joined false rs p ∙ first-whole rs p
 
 pub rows-refused : (room at : ℕ) (rs : List Row) → placed false rs ≡ true → rowsRefusal room at true rs ≡ eventsRefusal room at (group rs)
 rows-refused room at rs p = parts-refused room at true false rs p ∙ first-refused room at rs p
-
-pub list-placed : (first second rows : List ℕ) → listForms first second rows ≡ true → placed false (rowsIn first second rows) ≡ true
-unfolding listForms
-list-placed first second rows h =
-    byTest (eqb (length rows % 8) 0)
-    (λ e. form-placed first second false (length rows / 8) rows (sym (rw e) ∙ h))
-    (λ e. absurd (false≢true (sym (rw e) ∙ h)))

@@ -25,7 +25,8 @@ use Rattle.xml_spec.specs.Chars.{legal}
 use Rattle.xml_spec.specs.Xml.{xml}
 use Rattle.xml_spec.specs.ToXml.{ofRow, eventsRefusal, refusal, wrote, refused, unless, toXml}
 use Rattle.xml_spec.specs.Rows.{rowXml, rowsXml, endRefusal, rowsRefusal, rowText, rowRefusal, rowToXml}
-use Rattle.xml_spec.specs.Joined.{rows-joined, rows-refused, list-placed}
+use Rattle.event.specs.Attributes.{list-placed}
+use Rattle.xml_spec.specs.Joined.{rows-joined, rows-refused}
 
 module _ (first second rows : List ℕ) where
   -- the texts of so many rows from one on

@@ -9,7 +9,8 @@ use Rattle.event.specs.Row.{Row, rowAt}
 use Rattle.text.specs.Put.{after}
 use Rattle.xml_spec.specs.Rows.{rowXml, rowFault}
 use Rattle.xml.specs.Passes.{told}
-use Rattle.xml.proofs.Laws.{row-of-eight, ends-is, turn-broken, turn-more, turn-last, end-says}
+use Rattle.event.specs.Laws.{row-of-eight}
+use Rattle.xml.proofs.Laws.{ends-is, turn-broken, turn-more, turn-last, end-says}
 use borrow.Author.Needs.{needs}
 use Rattle.xml.proofs.measure_row.Statement.{statement}
 use Rattle.xml.proofs.measure_row.Tie as tie

@@ -8,7 +8,8 @@ use Rattle.event.specs.Row.{Row, rowAt}
 use Rattle.writer_spec.specs.Writer.{rowsIn}
 use Rattle.text.specs.Put.{Put}
 use Rattle.xml_spec.specs.Rows.{rowXml, rowsXml}
-use Rattle.xml.proofs.Laws.{row-of-eight, ends-is}
+use Rattle.event.specs.Laws.{row-of-eight}
+use Rattle.xml.proofs.Laws.{ends-is}
 use Rattle.xml.proofs.Turns.{put-turn, put-done, put-length, put-within}
 use Rattle.xml.proofs.put_rows.Statement.{statement}
 use Rattle.xml.proofs.put_rows.Tie as tie

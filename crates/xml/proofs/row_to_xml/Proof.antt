@@ -7,7 +7,8 @@ use Rattle.event.specs.Row.{rowAt}
 use Rattle.text.specs.Put.{after, Put}
 use Rattle.xml_spec.specs.ToXml.{unless}
 use Rattle.xml_spec.specs.Rows.{rowXml, rowFault, rowText, rowRefusal, rowToXml}
-use Rattle.xml.proofs.Laws.{row-of-eight, ends-is}
+use Rattle.event.specs.Laws.{row-of-eight}
+use Rattle.xml.proofs.Laws.{ends-is}
 use Rattle.xml.proofs.Calls.{row-there, row-refused, row-full, row-printed}
 use borrow.Author.Needs.{needs}
 use Rattle.xml.proofs.row_to_xml.Statement.{statement}
