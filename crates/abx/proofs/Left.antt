@@ -8,18 +8,13 @@ use Rattle.writer_spec.specs.Writer as Writer
 use Rattle.xml_spec.specs.ToXml as Xml
 use Rattle.slice.specs.declared.Place as Coded
 use Rattle.slice.specs.declared.Next.{Next}
-use Rattle.slice.specs.declared.Next.TheVariants as Next
 use Rattle.slice.specs.Answers.{next_of}
 use Rattle.stream.specs.declared.Stream as State
 use Rattle.stream.specs.declared.Fed.{Fed}
-use Rattle.stream.specs.declared.Fed.TheVariants as Fed
 use Rattle.stream.specs.declared.Closed.{Closed}
-use Rattle.stream.specs.declared.Closed.TheVariants as Closed
 use Rattle.stream.specs.declared.Answer.{Answer}
-use Rattle.stream.specs.declared.Answer.TheVariants as Answer
 use Rattle.stream.specs.Answers.{fed_of, closed_of, answer_of}
 use Rattle.xml.specs.declared.Printed.{Printed}
-use Rattle.xml.specs.declared.Printed.TheVariants as Printed
 use Rattle.xml.specs.Answers.{printed_of}
 use Rattle.abx_words.specs.Words.{answered, next_words, NextLeft, reply_words, chunk_words, kept, Told, StreamLeft, WriteLeft, text_words, XmlLeft}
 

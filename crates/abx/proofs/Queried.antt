@@ -4,7 +4,6 @@ use mathlib.Core.Path.{◌≡◌, refl, ap, ◌∙◌}
 use Prim.Native.Nat.{ℕ}
 use Rattle.slice_spec.specs.Queries.{Left}
 use Rattle.slice.specs.declared.queries.Queried.{Queried}
-use Rattle.slice.specs.declared.queries.Queried.TheVariants as Queried
 use Rattle.slice.specs.Answers.{left_of}
 use Rattle.abx_words.specs.QueryWords.{told_to, query_words, QueryLeft}
 

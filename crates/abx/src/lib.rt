@@ -1,8 +1,10 @@
-// The static library for Rust and C: thin exported functions over the other crates. A slice is passed as a pointer, then a
+// What Rust and C call, as thin functions over the other crates; `abx_c` exports them. A slice is passed as a pointer, then a
 // length. An answer is four words, and is written where there is room for four: 0 and what was asked for; 1 at the end; 2, a
 // refusal's number and its detail; or 3 where a chunk reader needs more. A chunk reader's state is six words that each call is
 // lent: start, end, names, bytes, and 0 or 1 for a header passed and for a finish. A call that is not refused leaves the new state there.
-mod queries;
+#![tactic(auto)]
+
+pub mod queries;
 
 ghost use Rattle.std.specs.Prelude.{[], ◌≡◌};
 ghost use Rattle.utf8.specs.Utf8.{well_formed};
@@ -19,24 +21,21 @@ use slice::Place;
 use writer::Writer;
 
 // Whether s is well-formed UTF-8.
-#[unsafe(no_mangle)]
-pub extern "C" fn abx_is_utf8(s: &[u8]) -> bool
+pub fn abx_is_utf8(s: &[u8]) -> bool
     ensures { result ≡ well_formed s.now }
 {
     utf8::is_utf8(s)
 }
 
 // 0, place and names; or 2, number and detail.
-#[unsafe(no_mangle)]
-pub extern "C" fn abx_slice_create(document: &[u8], pool: &[u32], answer: &mut [usize])
+pub fn abx_slice_create(document: &[u8], pool: &[u32], answer: &mut [usize])
     ensures { answer.new ≡ answered answer.old (created_words (Slice.create document.now pool.now)) }
 {
     slice_words::tell_created(answer, slice::create(document, pool))
 }
 
 // 0, rows, place and names; or 1; or 2, number and detail.
-#[unsafe(no_mangle)]
-pub extern "C" fn abx_slice_next(
+pub fn abx_slice_next(
     at: usize,
     names: usize,
     document: &[u8],
@@ -53,8 +52,7 @@ pub extern "C" fn abx_slice_next(
 // ---- the chunk reader
 
 // 0; or 2, number and detail.
-#[unsafe(no_mangle)]
-pub extern "C" fn abx_stream_create(
+pub fn abx_stream_create(
     state: &mut [usize],
     window: &[u8],
     pool: &[u32],
@@ -68,8 +66,7 @@ pub extern "C" fn abx_stream_create(
 }
 
 // 0 and the bytes taken; or 2, number and detail.
-#[unsafe(no_mangle)]
-pub extern "C" fn abx_stream_feed(
+pub fn abx_stream_feed(
     state: &mut [usize],
     window: &mut [u8],
     pool: &[u32],
@@ -85,8 +82,7 @@ pub extern "C" fn abx_stream_feed(
 }
 
 // 0; or 2, number and detail.
-#[unsafe(no_mangle)]
-pub extern "C" fn abx_stream_finish(
+pub fn abx_stream_finish(
     state: &mut [usize],
     window: &[u8],
     pool: &[u32],
@@ -101,8 +97,7 @@ pub extern "C" fn abx_stream_finish(
 }
 
 // 0 and rows; 1; 3 where more is needed; or 2, number and detail.
-#[unsafe(no_mangle)]
-pub extern "C" fn abx_stream_next(
+pub fn abx_stream_next(
     state: &mut [usize],
     window: &[u8],
     pool: &mut [u32],
@@ -120,15 +115,13 @@ pub extern "C" fn abx_stream_next(
 // ---- the writer
 
 // 0, bytes written and names; or 2, number and detail.
-#[unsafe(no_mangle)]
-pub extern "C" fn abx_writer_create(output: &mut [u8], pool: &[u32], answer: &mut [usize])
-    ensures { WriteLeft answer.old answer.new output.exit.now pool.now (Spec.create (record { output = output.entry.now; table = pool.now })) }
+pub fn abx_writer_create(output: &mut [u8], pool: &[u32], answer: &mut [usize])
+    ensures { WriteLeft answer.old answer.new output.new pool.now (Spec.create (record { output = output.old; table = pool.now })) }
 {
     writer_words::tell_written(answer, writer::create(output, pool))
 }
 
-#[unsafe(no_mangle)]
-pub extern "C" fn abx_write_event<'a>(
+pub fn abx_write_event<'a>(
     written: usize,
     names: usize,
     first: &'a [u8],
@@ -138,7 +131,7 @@ pub extern "C" fn abx_write_event<'a>(
     pool: &mut [u32],
     answer: &mut [usize],
 )
-    ensures { WriteLeft answer.old answer.new output.exit.now pool.new (Spec.write_event (record { written = written; names = names }) first.now second.now rows.now (record { output = output.entry.now; table = pool.old })) }
+    ensures { WriteLeft answer.old answer.new output.new pool.new (Spec.write_event (record { written = written; names = names }) first.now second.now rows.now (record { output = output.old; table = pool.old })) }
 {
     let w = Writer { written, names };
     writer_words::tell_written(
@@ -147,8 +140,7 @@ pub extern "C" fn abx_write_event<'a>(
     )
 }
 
-#[unsafe(no_mangle)]
-pub extern "C" fn abx_write_events<'a>(
+pub fn abx_write_events<'a>(
     written: usize,
     names: usize,
     first: &'a [u8],
@@ -158,7 +150,7 @@ pub extern "C" fn abx_write_events<'a>(
     pool: &mut [u32],
     answer: &mut [usize],
 )
-    ensures { WriteLeft answer.old answer.new output.exit.now pool.new (Spec.write_events (record { written = written; names = names }) first.now second.now rows.now (record { output = output.entry.now; table = pool.old })) }
+    ensures { WriteLeft answer.old answer.new output.new pool.new (Spec.write_events (record { written = written; names = names }) first.now second.now rows.now (record { output = output.old; table = pool.old })) }
 {
     let w = Writer { written, names };
     writer_words::tell_written(
@@ -170,8 +162,7 @@ pub extern "C" fn abx_write_events<'a>(
 // ---- XML text
 
 // 0 and the bytes of text; or 2, number and detail.
-#[unsafe(no_mangle)]
-pub extern "C" fn abx_to_xml<'a>(
+pub fn abx_to_xml<'a>(
     first: &'a [u8],
     second: &'a [u8],
     rows: &[u32],
@@ -184,8 +175,7 @@ pub extern "C" fn abx_to_xml<'a>(
 }
 
 // The same of one row of a list, counted from 0.
-#[unsafe(no_mangle)]
-pub extern "C" fn abx_row_to_xml<'a>(
+pub fn abx_row_to_xml<'a>(
     row: usize,
     first: &'a [u8],
     second: &'a [u8],
@@ -201,13 +191,7 @@ pub extern "C" fn abx_row_to_xml<'a>(
 // ---- nesting
 
 // 0, and 1 where the list is one nested document or 0 where it is not; or 2, number and detail.
-#[unsafe(no_mangle)]
-pub extern "C" fn abx_nested<'a>(
-    first: &'a [u8],
-    second: &'a [u8],
-    rows: &[u32],
-    answer: &mut [usize],
-)
+pub fn abx_nested<'a>(first: &'a [u8], second: &'a [u8], rows: &[u32], answer: &mut [usize])
     ensures { answer.new ≡ answered answer.old (nesting_words (nesting first.now second.now rows.now)) }
 {
     nesting_words::tell_nesting(answer, nesting::nested(first, second, rows))

@@ -1,4 +1,4 @@
-// The four queries of the slice reader, exported. An answer is seven words, and is written where there is room for seven: 0 where it was
+// The four queries of the slice reader. An answer is seven words, and is written where there is room for seven: 0 where it was
 // found, 1 where no more is to be read, 2 where the query was refused; the place and the names; the events consumed; the rows
 // written; and a refusal's number and detail.
 ghost use Rattle.slice_spec.specs.Queries.{query, find-attribute, attributes-of, find-all-attributes, all-attributes-of};
@@ -7,8 +7,7 @@ ghost use Rattle.abx_words.specs.QueryWords.{QueryLeft};
 use slice::Place;
 
 // The first attribute of this name on the next element of that name that has it.
-#[unsafe(no_mangle)]
-pub extern "C" fn abx_find_attribute(
+pub fn abx_find_attribute(
     at: usize,
     names: usize,
     document: &[u8],
@@ -28,8 +27,7 @@ pub extern "C" fn abx_find_attribute(
 }
 
 // The next element of this name, with its attributes.
-#[unsafe(no_mangle)]
-pub extern "C" fn abx_attributes_of(
+pub fn abx_attributes_of(
     at: usize,
     names: usize,
     document: &[u8],
@@ -48,8 +46,7 @@ pub extern "C" fn abx_attributes_of(
 }
 
 // Every attribute of this name on every element of that name.
-#[unsafe(no_mangle)]
-pub extern "C" fn abx_find_all_attributes(
+pub fn abx_find_all_attributes(
     at: usize,
     names: usize,
     document: &[u8],
@@ -69,8 +66,7 @@ pub extern "C" fn abx_find_all_attributes(
 }
 
 // Every element of this name, with its attributes.
-#[unsafe(no_mangle)]
-pub extern "C" fn abx_all_attributes_of(
+pub fn abx_all_attributes_of(
     at: usize,
     names: usize,
     document: &[u8],

@@ -2,11 +2,10 @@
 use Rattle.std.specs.Prelude.{List, ◌≡◌, ℕ, ◌+◌, ◌*◌, ◌/◌, ◌≤◌, length}
 use Rattle.std.proofs.Common.{sym, ap, ◌∙◌, arith}
 use Rattle.stream_spec.specs.Stream.{Stream, Lent, Left, Reply, took, done, gives, need_more, end, given, next_from, next}
-use Rattle.stream_spec.specs.Branches.{next_from-by, next-by}
+use Rattle.stream_spec.proofs.Branches.{next_from-by, next-by}
 use Rattle.stream.specs.Answers.{answer_of}
 use Rattle.stream.specs.declared.Stream as Coded
 use Rattle.stream.specs.declared.Answer.{Answer}
-use Rattle.stream.specs.declared.Answer.TheVariants as Answer
 
 -- how many rows a reply gives
 abbrev counted : Reply → ℕ

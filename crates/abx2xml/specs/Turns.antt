@@ -1,9 +1,7 @@
 -- How many bytes of the buffer wait to be written.
 use Rattle.std.specs.Prelude.{ℕ}
 use Rattle.abx2xml.specs.declared.Shown.{Shown}
-use Rattle.abx2xml.specs.declared.Shown.TheVariants as Shown
 use Rattle.abx2xml.specs.declared.Turned.{Turned}
-use Rattle.abx2xml.specs.declared.Turned.TheVariants as Turned
 
 -- behind a text
 abbrev pub shown : Shown → ℕ

@@ -1,137 +1,160 @@
 // Prints an ABX document as XML: standard input, or the file that its one argument names. It reads by the chunk reader, so the document
 // may be of any length. Nothing but XML goes to standard output; what goes wrong is told on standard error, after the text so far.
+#![tactic(auto)]
+
 ghost use Rattle.std.specs.Prelude.{◌*◌, ◌≤◌, length};
+ghost use Rattle.std.specs.Io.{ReadsAtMost};
 ghost use Rattle.abx2xml.specs.Turns.{shown, turned};
 
-use libc::{STDERR_FILENO, STDIN_FILENO, STDOUT_FILENO};
+use std::env::FillError;
+use std::fmt::Write;
+use std::fs::File;
+use std::io::{Print, Read, Stderr, Stdin, Stdout};
+use std::rt::{Env, Files};
+use std::{fmt, fs, io, str};
 use stream::{Answer, Closed, Created, Fed, Stream};
 use wire::Refusal;
 use xml::Printed;
 
+// Where the program writes, and what it reads where no file is named.
+#[derive(Clone, Copy)]
+pub struct Streams {
+    pub input: Stdin,
+    pub output: Stdout,
+    pub errors: Stderr,
+}
+
+// What is read.
+#[derive(Drop)]
+pub enum Origin {
+    Input(Stdin),
+    File(File),
+}
+
 // ---- what is told on standard error
 
+// Where standard error takes nothing either, nobody is left to tell.
+fn tell(streams: Streams, words: &[u8]) {
+    let _ = streams.errors.write_all(words);
+}
+
+fn tell_number(streams: Streams, n: u32) {
+    let _ = print!(streams.errors; "{n}");
+}
+
 // What a refusal says. The limits of 10, 12 and 13 are those of the spaces in `print`.
-fn tell_words(number: u32) {
+fn tell_words(streams: Streams, number: u32) {
     match number {
         Refusal::HEADER_SHORT => {
-            io::write_all(
-                STDERR_FILENO,
+            tell(
+                streams,
                 b"the input ends inside the header, its first four bytes",
             );
         }
         Refusal::INVALID_MAGIC => {
-            io::write_all(
-                STDERR_FILENO,
+            tell(
+                streams,
                 b"this is no ABX file: it does not begin with ABX and a zero byte",
             );
         }
         Refusal::UNEXPECTED_EOF => {
-            io::write_all(
-                STDERR_FILENO,
+            tell(
+                streams,
                 b"the input ends inside a token, length, index or number",
             );
         }
         Refusal::STRING_SHORT => {
-            io::write_all(STDERR_FILENO, b"the input ends inside a string");
+            tell(streams, b"the input ends inside a string");
         }
         Refusal::BYTES_SHORT => {
-            io::write_all(STDERR_FILENO, b"the input ends inside a blob");
+            tell(streams, b"the input ends inside a blob");
         }
         Refusal::BAD_INTERNED_INDEX => {
-            io::write_all(
-                STDERR_FILENO,
-                b"a name is given by an index that no name has",
-            );
+            tell(streams, b"a name is given by an index that no name has");
         }
         Refusal::INVALID_UTF8 => {
-            io::write_all(STDERR_FILENO, b"a string is not well-formed UTF-8");
+            tell(streams, b"a string is not well-formed UTF-8");
         }
         Refusal::UNKNOWN_ATTRIBUTE_TYPE => {
-            io::write_all(
-                STDERR_FILENO,
+            tell(
+                streams,
                 b"an attribute is of an unknown type, told times 16",
             );
         }
         Refusal::UNKNOWN_COMMAND => {
-            io::write_all(
-                STDERR_FILENO,
+            tell(
+                streams,
                 b"an unknown command, or an attribute outside a start tag",
             );
         }
         Refusal::ROWS_FULL => {
-            io::write_all(
-                STDERR_FILENO,
+            tell(
+                streams,
                 b"an event has over 98,304 rows: a start tag and its attributes",
             );
         }
         Refusal::POOL_FULL => {
-            io::write_all(STDERR_FILENO, b"there are over 65,535 names");
+            tell(streams, b"there are over 65,535 names");
         }
         Refusal::NAMES_FULL => {
-            io::write_all(
-                STDERR_FILENO,
-                b"all names together have over 1,048,576 bytes",
-            );
+            tell(streams, b"all names together have over 1,048,576 bytes");
         }
         Refusal::WINDOW_FULL => {
-            io::write_all(STDERR_FILENO, b"an event has over 1,048,576 bytes");
+            tell(streams, b"an event has over 1,048,576 bytes");
         }
         Refusal::VALUE_TOO_LONG => {
-            io::write_all(STDERR_FILENO, b"a string or blob has over 65,535 bytes");
+            tell(streams, b"a string or blob has over 65,535 bytes");
         }
         Refusal::OUTPUT_FULL => {
-            io::write_all(STDERR_FILENO, b"a text is longer than the buffer for it");
+            tell(streams, b"a text is longer than the buffer for it");
         }
         Refusal::NOT_ROWS => {
-            io::write_all(STDERR_FILENO, b"an event's words form no rows");
+            tell(streams, b"an event's words form no rows");
         }
         Refusal::BAD_SIZE => {
-            io::write_all(STDERR_FILENO, b"a buffer has a length that no call takes");
+            tell(streams, b"a buffer has a length that no call takes");
         }
         Refusal::ALREADY_FINISHED => {
-            io::write_all(STDERR_FILENO, b"more input after its end");
+            tell(streams, b"more input after its end");
         }
         Refusal::BAD_STATE => {
-            io::write_all(
-                STDERR_FILENO,
-                b"the reader stands at a place outside its buffers",
-            );
+            tell(streams, b"the reader stands at a place outside its buffers");
         }
         Refusal::ILLEGAL_CHAR => {
-            io::write_all(
-                STDERR_FILENO,
+            tell(
+                streams,
                 b"a name, text or value has a character that XML 1.0 does not allow",
             );
         }
         _ => {
-            io::write_all(STDERR_FILENO, b"a refusal that this program does not know");
+            tell(streams, b"a refusal that this program does not know");
         }
     }
 }
 
-fn tell_refused(refusal: Refusal) {
-    io::write_all(STDERR_FILENO, b"abx2xml: refused ");
-    io::print_decimal(STDERR_FILENO, refusal.number as u64);
-    io::write_all(STDERR_FILENO, b" ");
-    io::print_decimal(STDERR_FILENO, refusal.detail as u64);
-    io::write_all(STDERR_FILENO, b": ");
-    tell_words(refusal.number);
-    io::write_all(STDERR_FILENO, b"\n");
+fn tell_refused(streams: Streams, refusal: Refusal) {
+    tell(streams, b"abx2xml: refused ");
+    tell_number(streams, refusal.number);
+    tell(streams, b" ");
+    tell_number(streams, refusal.detail);
+    tell(streams, b": ");
+    tell_words(streams, refusal.number);
+    tell(streams, b"\n");
 }
 
-fn tell_write_error() {
-    io::write_all(
-        STDERR_FILENO,
-        b"abx2xml: standard output can't be written\n",
-    );
+fn tell_write_error(streams: Streams) {
+    tell(streams, b"abx2xml: standard output can't be written\n");
 }
 
-fn tell_read_error(source: i32) {
-    if source == STDIN_FILENO {
-        io::write_all(STDERR_FILENO, b"abx2xml: standard input can't be read\n");
-        return;
+fn tell_read_error(streams: Streams, source: &Origin) {
+    match source {
+        Origin::Input(_) => {
+            tell(streams, b"abx2xml: standard input can't be read\n");
+        }
+        Origin::File(_) => {
+            tell(streams, b"abx2xml: the file can't be read\n");
+        }
     }
-    io::write_all(STDERR_FILENO, b"abx2xml: the file can't be read\n");
 }
 
 // ---- output
@@ -144,27 +167,30 @@ pub enum Shown {
 }
 
 // Writes the bytes that wait; whether they could be written.
-fn flush(out: &[u8], at: usize) -> bool
+fn flush(streams: Streams, out: &[u8], at: usize) -> bool
     requires { at ≤ length out.now }
 {
-    if io::write_all(STDOUT_FILENO, &out[..at]) {
-        return true;
+    match streams.output.write_all(&out[..at]) {
+        Ok(()) => true,
+        Err(_) => {
+            tell_write_error(streams);
+            false
+        }
     }
-    tell_write_error();
-    false
 }
 
 // The end by a refusal: the text so far, then why.
-fn refuse(refusal: Refusal, out: &[u8], at: usize)
+fn refuse(streams: Streams, refusal: Refusal, out: &[u8], at: usize)
     requires { at ≤ length out.now }
 {
-    if flush(out, at) {
-        tell_refused(refusal);
+    if flush(streams, out, at) {
+        tell_refused(streams, refusal);
     }
 }
 
 // A row's text as the buffer's first.
 fn show_row_first<'a>(
+    streams: Streams,
     first: &'a [u8],
     second: &'a [u8],
     rows: &[u32],
@@ -176,7 +202,7 @@ fn show_row_first<'a>(
     match xml::row_to_xml(first, second, rows, row, out) {
         Printed::Text(len) => Shown::Waits(len),
         Printed::Refused(refusal) => {
-            tell_refused(refusal);
+            tell_refused(streams, refusal);
             Shown::Done
         }
     }
@@ -184,6 +210,7 @@ fn show_row_first<'a>(
 
 // A row's text behind the bytes that wait; these are written first where it does not fit behind them.
 fn show_row<'a>(
+    streams: Streams,
     first: &'a [u8],
     second: &'a [u8],
     rows: &[u32],
@@ -197,8 +224,8 @@ fn show_row<'a>(
     match xml::row_to_xml(first, second, rows, row, &mut out[at..]) {
         Printed::Text(len) => Shown::Waits(at + len),
         Printed::Refused(_) => {
-            if flush(out, at) {
-                return show_row_first(first, second, rows, row, out);
+            if flush(streams, out, at) {
+                return show_row_first(streams, first, second, rows, row, out);
             }
             Shown::Done
         }
@@ -206,14 +233,20 @@ fn show_row<'a>(
 }
 
 // An event whose text is longer than the buffer, row by row.
-fn show_rows<'a>(first: &'a [u8], second: &'a [u8], rows: &[u32], out: &mut [u8]) -> Shown
+fn show_rows<'a>(
+    streams: Streams,
+    first: &'a [u8],
+    second: &'a [u8],
+    rows: &[u32],
+    out: &mut [u8],
+) -> Shown
     ensures { shown result ≤ length out.old }
 {
     let count = rows.len() / 8;
     let mut at = 0;
     let mut row = 0;
     while row < count {
-        match show_row(first, second, rows, row, out, at) {
+        match show_row(streams, first, second, rows, row, out, at) {
             Shown::Waits(end) => {
                 at = end;
             }
@@ -227,23 +260,36 @@ fn show_rows<'a>(first: &'a [u8], second: &'a [u8], rows: &[u32], out: &mut [u8]
 }
 
 // An event's text as the buffer's first. Where it is refused for its length alone, nothing else is wrong with it.
-fn show_first<'a>(first: &'a [u8], second: &'a [u8], rows: &[u32], out: &mut [u8]) -> Shown
+fn show_first<'a>(
+    streams: Streams,
+    first: &'a [u8],
+    second: &'a [u8],
+    rows: &[u32],
+    out: &mut [u8],
+) -> Shown
     ensures { shown result ≤ length out.old }
 {
     match xml::to_xml(first, second, rows, out) {
         Printed::Text(len) => Shown::Waits(len),
         Printed::Refused(refusal) => {
             if refusal.number == Refusal::OUTPUT_FULL {
-                return show_rows(first, second, rows, out);
+                return show_rows(streams, first, second, rows, out);
             }
-            tell_refused(refusal);
+            tell_refused(streams, refusal);
             Shown::Done
         }
     }
 }
 
 // An event's text behind the bytes that wait; these are written first where it does not fit behind them.
-fn show<'a>(first: &'a [u8], second: &'a [u8], rows: &[u32], out: &mut [u8], at: usize) -> Shown
+fn show<'a>(
+    streams: Streams,
+    first: &'a [u8],
+    second: &'a [u8],
+    rows: &[u32],
+    out: &mut [u8],
+    at: usize,
+) -> Shown
     requires { at ≤ length out.old }
     ensures { shown result ≤ length out.old }
 {
@@ -251,12 +297,12 @@ fn show<'a>(first: &'a [u8], second: &'a [u8], rows: &[u32], out: &mut [u8], at:
         Printed::Text(len) => Shown::Waits(at + len),
         Printed::Refused(refusal) => {
             if refusal.number == Refusal::OUTPUT_FULL {
-                if flush(out, at) {
-                    return show_first(first, second, rows, out);
+                if flush(streams, out, at) {
+                    return show_first(streams, first, second, rows, out);
                 }
                 return Shown::Done;
             }
-            refuse(refusal, out, at);
+            refuse(streams, refusal, out, at);
             Shown::Done
         }
     }
@@ -296,32 +342,47 @@ fn close(reader: Stream, window: &[u8], table: &[u32], store: &[u8]) -> Fetched 
     }
 }
 
+fn read(source: &mut Origin, buf: &mut [u8]) -> io::Result<usize>
+    ensures { ReadsAtMost result buf.new }
+{
+    match source {
+        Origin::Input(stdin) => stdin.read(buf),
+        Origin::File(file) => file.read(buf),
+    }
+}
+
 // Reads once, as much as the window has room for, so that a feed takes all of it. Only a read of no bytes is the end.
 fn fetch_by(
     chunk: &mut [u8],
-    source: i32,
+    source: &mut Origin,
     reader: Stream,
     window: &mut [u8],
     table: &[u32],
     store: &[u8],
 ) -> Fetched {
     let most = room(reader, window.len(), chunk.len());
-    let got = libc::read(source, &mut chunk[..most]);
-    if got < 0 {
-        return Fetched::Failed;
-    }
-    if got == 0 {
-        return close(reader, window, table, store);
-    }
-    let count = io::count(got, chunk);
-    match stream::feed(reader, window, table, store, &chunk[..count]) {
-        Fed::Took { count: _, stream } => Fetched::Stream(stream),
-        Fed::Refused(refusal) => Fetched::Refused(refusal),
+    match read(source, &mut chunk[..most]) {
+        Ok(count) => {
+            if count == 0 {
+                return close(reader, window, table, store);
+            }
+            match stream::feed(reader, window, table, store, &chunk[..count]) {
+                Fed::Took { count: _, stream } => Fetched::Stream(stream),
+                Fed::Refused(refusal) => Fetched::Refused(refusal),
+            }
+        }
+        Err(_) => Fetched::Failed,
     }
 }
 
-fn fetch(source: i32, reader: Stream, window: &mut [u8], table: &[u32], store: &[u8]) -> Fetched {
-    let mut chunk = io::large_buffer();
+fn fetch(
+    source: &mut Origin,
+    reader: Stream,
+    window: &mut [u8],
+    table: &[u32],
+    store: &[u8],
+) -> Fetched {
+    let mut chunk = [0u8; 65536];
     fetch_by(&mut chunk, source, reader, window, table, store)
 }
 
@@ -342,7 +403,8 @@ pub enum Turned {
 
 // More input for a reader that needs it.
 fn read_on(
-    source: i32,
+    streams: Streams,
+    source: &mut Origin,
     reader: Stream,
     at: usize,
     window: &mut [u8],
@@ -356,12 +418,12 @@ fn read_on(
     match fetch(source, reader, window, table, store) {
         Fetched::Stream(fed) => Turned::Go(Printing { reader: fed, at }),
         Fetched::Refused(refusal) => {
-            refuse(refusal, out, at);
+            refuse(streams, refusal, out, at);
             Turned::Done
         }
         Fetched::Failed => {
-            if flush(out, at) {
-                tell_read_error(source);
+            if flush(streams, out, at) {
+                tell_read_error(streams, source);
             }
             Turned::Done
         }
@@ -370,6 +432,7 @@ fn read_on(
 
 // The text of the event in the first rows, and the reader that comes after it.
 fn print_event<'a>(
+    streams: Streams,
     reader: Stream,
     first: &'a [u8],
     second: &'a [u8],
@@ -381,7 +444,7 @@ fn print_event<'a>(
     requires { (8 * count ≤ length rows.now) × (at ≤ length out.old) }
     ensures { turned result ≤ length out.old }
 {
-    match show(first, second, &rows[..8 * count], out, at) {
+    match show(streams, first, second, &rows[..8 * count], out, at) {
         Shown::Waits(end) => Turned::Go(Printing { reader, at: end }),
         Shown::Done => Turned::Done,
     }
@@ -389,7 +452,8 @@ fn print_event<'a>(
 
 // The next event, or a read, or the end.
 fn turn(
-    source: i32,
+    streams: Streams,
+    source: &mut Origin,
     p: Printing,
     window: &mut [u8],
     table: &mut [u32],
@@ -406,14 +470,14 @@ fn turn(
         Answer::Event {
             rows: count,
             stream,
-        } => print_event(stream, window, store, rows, count, out, at),
-        Answer::NeedMore(stream) => read_on(source, stream, at, window, table, store, out),
+        } => print_event(streams, stream, window, store, rows, count, out, at),
+        Answer::NeedMore(stream) => read_on(streams, source, stream, at, window, table, store, out),
         Answer::End(_) => {
-            flush(out, at);
+            flush(streams, out, at);
             Turned::Done
         }
         Answer::Refused(refusal) => {
-            refuse(refusal, out, at);
+            refuse(streams, refusal, out, at);
             Turned::Done
         }
     }
@@ -421,7 +485,8 @@ fn turn(
 
 // Turn by turn. The turns do not run out: each takes a byte of the input, but for those that read.
 fn print_from(
-    source: i32,
+    streams: Streams,
+    source: &mut Origin,
     first: Stream,
     window: &mut [u8],
     table: &mut [u32],
@@ -435,7 +500,7 @@ fn print_from(
     };
     let mut turns: u64 = 0;
     while turns < 0xFFFF_FFFF_FFFF_FFFF {
-        match turn(source, p, window, table, store, rows, out) {
+        match turn(streams, source, p, window, table, store, rows, out) {
             Turned::Go(next) => {
                 p = next;
             }
@@ -448,7 +513,8 @@ fn print_from(
 }
 
 fn print_by(
-    source: i32,
+    streams: Streams,
+    source: &mut Origin,
     window: &mut [u8],
     table: &mut [u32],
     store: &mut [u8],
@@ -457,24 +523,25 @@ fn print_by(
 ) {
     match stream::create(window, table, store) {
         Created::Stream(reader) => {
-            print_from(source, reader, window, table, store, rows, out);
+            print_from(streams, source, reader, window, table, store, rows, out);
         }
         Created::Refused(refusal) => {
-            tell_refused(refusal);
+            tell_refused(streams, refusal);
         }
     }
 }
 
 // The longest window, a table for all names that can be, and as many names' bytes and rows as leave the stack, which has 8 MiB, a
 // fourth of it. The text of one row fits the buffer: at most 6 bytes for each of a value's, a name, and 16 bytes more.
-fn print(source: i32) {
+fn print(streams: Streams, mut source: Origin) {
     let mut window = [0u8; 1048576];
     let mut table = [0u32; 131070];
     let mut store = [0u8; 1048576];
     let mut rows = [0u32; 786432];
     let mut out = [0u8; 524288];
     print_by(
-        source,
+        streams,
+        &mut source,
         &mut window,
         &mut table,
         &mut store,
@@ -492,50 +559,122 @@ fn is_dash(name: &[u8]) -> bool {
     false
 }
 
-// The file's descriptor; or -1, with the reason told.
-fn open_named(name: &[u8]) -> i32 {
+// An error's text, as far as there is room.
+#[derive(Drop)]
+pub struct Words {
+    pub bytes: [u8; 256],
+    pub len: usize,
+}
+
+impl Write for Words {
+    fn write_str(&mut self, s: &str) -> fmt::Result {
+        for b in s.as_bytes() {
+            if self.len < 256 {
+                self.bytes[self.len] = *b;
+                self.len += 1;
+            }
+        }
+        Ok(())
+    }
+}
+
+// How much of an error's text comes before its number, which the library adds.
+fn without_number(words: &Words) -> usize
+    ensures { result ≤ 256 }
+{
+    let mut i = 0;
+    while i < 256 {
+        if i == words.len {
+            return i;
+        }
+        if words.bytes[i..].starts_with(b" (os error ") {
+            return i;
+        }
+        i += 1;
+    }
+    256
+}
+
+// Why a file can't be opened, in the system's words.
+fn tell_open_error(streams: Streams, name: &[u8], error: io::Error) {
+    tell(streams, b"abx2xml: ");
+    tell(streams, name);
+    tell(streams, b": ");
+    let mut words = Words {
+        bytes: [0u8; 256],
+        len: 0,
+    };
+    let _ = write!(words, "{error}");
+    let len = without_number(&words);
+    tell(streams, &words.bytes[..len]);
+    tell(streams, b"\n");
+}
+
+// The file of a name; or nothing, with the reason told.
+fn open_named<R: Files<File = File>>(rt: &R, streams: Streams, name: &[u8]) -> Option<Origin> {
     if is_dash(name) {
-        return STDIN_FILENO;
+        return Some(Origin::Input(streams.input));
     }
-    let file = os::open_read(name);
-    if file < 0 {
-        io::write_all(STDERR_FILENO, b"abx2xml: ");
-        os::fail(name);
-        return -1;
+    match str::from_utf8(name) {
+        Ok(path) => match fs::open(rt, path) {
+            Ok(file) => Some(Origin::File(file)),
+            Err(error) => {
+                tell_open_error(streams, name, error);
+                None
+            }
+        },
+        Err(_) => {
+            tell(
+                streams,
+                b"abx2xml: the file's name: not well-formed UTF-8\n",
+            );
+            None
+        }
     }
-    file
 }
 
-fn open_argument() -> i32 {
-    let mut space = io::buffer();
-    let len = os::arg(1, &mut space);
-    if os::errno() != 0 {
-        os::fail(b"abx2xml: the file's name");
-        return -1;
+// Whether there is an argument of that number.
+fn has_argument<R: Env>(rt: &R, i: usize) -> bool {
+    let mut space = [0u8; 1];
+    match rt.arg(i, &mut space) {
+        Ok(_) => true,
+        Err(FillError::TooLong) => true,
+        Err(FillError::NotPresent) => false,
     }
-    open_named(&space[..len])
 }
 
-// What is to be read: a descriptor; or -1, with the reason told.
-fn source() -> i32 {
-    let count = os::arg_count();
-    if count > 2 {
-        io::write_all(
-            STDERR_FILENO,
+fn open_argument<R: Files<File = File> + Env>(rt: &R, streams: Streams) -> Option<Origin> {
+    let mut space = [0u8; 4096];
+    match rt.arg(1, &mut space) {
+        Ok(len) => open_named(rt, streams, &space[..len]),
+        Err(FillError::TooLong) => {
+            tell(streams, b"abx2xml: the file's name: File name too long\n");
+            None
+        }
+        Err(FillError::NotPresent) => Some(Origin::Input(streams.input)),
+    }
+}
+
+// What is to be read; or nothing, with the reason told.
+fn source<R: Files<File = File> + Env>(rt: &R, streams: Streams) -> Option<Origin> {
+    if has_argument(rt, 2) {
+        tell(
+            streams,
             b"usage: abx2xml [FILE]\nPrints the ABX of FILE as XML. With no FILE, or where it is -, standard input is read.\n",
         );
-        return -1;
+        return None;
     }
-    if count < 2 {
-        return STDIN_FILENO;
-    }
-    open_argument()
+    open_argument(rt, streams)
 }
 
-fn main() {
-    let source = source();
-    if source < 0 {
-        return;
+fn main(rt: HostRuntime) {
+    let streams = Streams {
+        input: rt.stdin(),
+        output: rt.stdout(),
+        errors: rt.stderr(),
+    };
+    match source(&rt, streams) {
+        Some(source) => print(streams, source),
+        None => {}
     }
-    print(source);
 }

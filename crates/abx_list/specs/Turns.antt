@@ -1,7 +1,6 @@
 -- What a turn of the listing's loop leaves.
 use Rattle.std.specs.Prelude.{ℕ, suc, ◌≤◌}
 use Rattle.abx_list.specs.declared.Turned.{Turned}
-use Rattle.abx_list.specs.declared.Turned.TheVariants as Turned
 
 -- what waits lies in a buffer of so many bytes, and there is one event more at most
 abbrev pub Within : ℕ → ℕ → Turned → Type 0

@@ -1,12 +1,22 @@
 // Lists the ABX document that comes on standard input: a line for each row, then `end` and the number of events, or `refused`
 // with number and detail. It reads by the chunk reader, so the document may be of any length.
+#![tactic(auto)]
+
 ghost use Rattle.std.specs.Prelude.{◌≤◌, ◌<◌, length};
 ghost use Rattle.abx_list.specs.Turns.{Within};
 
-use libc::{STDERR_FILENO, STDIN_FILENO, STDOUT_FILENO};
 use listing::Lined;
+use std::io::{Print, Read, Stderr, Stdin, Stdout};
 use stream::{Answer, Closed, Created, Fed, Stream};
 use wire::Refusal;
+
+// What the program reads from and writes to.
+#[derive(Clone, Copy)]
+pub struct Streams {
+    pub input: Stdin,
+    pub output: Stdout,
+    pub errors: Stderr,
+}
 
 // ---- output
 
@@ -18,10 +28,18 @@ pub struct Output {
 }
 
 // Writes the bytes that wait; whether they could be written.
-fn flush(out: &[u8], at: usize) -> bool
+fn flush(streams: Streams, out: &[u8], at: usize) -> bool
     requires { at ≤ length out.now }
 {
-    io::write_all(STDOUT_FILENO, &out[..at])
+    match streams.output.write_all(&out[..at]) {
+        Ok(()) => true,
+        Err(_) => false,
+    }
+}
+
+// Where standard error takes nothing either, nobody is left to tell.
+fn tell(streams: Streams, words: &[u8]) {
+    let _ = streams.errors.write_all(words);
 }
 
 // A row's line as the buffer's first.
@@ -48,6 +66,7 @@ fn show_first<'a>(
 
 // A row's line behind the bytes that wait; these are written first where it does not fit behind them.
 fn show_row<'a>(
+    streams: Streams,
     first: &'a [u8],
     second: &'a [u8],
     rows: &[u32],
@@ -64,7 +83,7 @@ fn show_row<'a>(
             failed: false,
         },
         Lined::Refused(_) => {
-            if flush(out, at) {
+            if flush(streams, out, at) {
                 return show_first(first, second, rows, row, out);
             }
             Output {
@@ -77,6 +96,7 @@ fn show_row<'a>(
 
 // The lines of an event's rows.
 fn show_rows<'a>(
+    streams: Streams,
     first: &'a [u8],
     second: &'a [u8],
     rows: &[u32],
@@ -90,7 +110,7 @@ fn show_rows<'a>(
     let mut at = start;
     let mut i = 0;
     while i < count {
-        let o = show_row(first, second, rows, i, out, at);
+        let o = show_row(streams, first, second, rows, i, out, at);
         if o.failed {
             return o;
         }
@@ -100,60 +120,57 @@ fn show_rows<'a>(
     Output { at, failed: false }
 }
 
-fn tell_write_error() {
-    io::write_all(
-        STDERR_FILENO,
-        b"abx_list: standard output can't be written\n",
-    );
+fn tell_write_error(streams: Streams) {
+    tell(streams, b"abx_list: standard output can't be written\n");
 }
 
 // A line that lies in the buffer's first bytes.
-fn show_last(lined: Lined, out: &[u8]) {
+fn show_last(streams: Streams, lined: Lined, out: &[u8]) {
     match lined {
         Lined::Line(len) => {
             if len <= out.len() {
-                if flush(out, len) {
+                if flush(streams, out, len) {
                     return;
                 }
             }
-            tell_write_error();
+            tell_write_error(streams);
         }
         Lined::Refused(_) => {
-            tell_write_error();
+            tell_write_error(streams);
         }
     }
 }
 
-fn show_end(events: usize, out: &mut [u8], at: usize)
+fn show_end(streams: Streams, events: usize, out: &mut [u8], at: usize)
     requires { at ≤ length out.old }
 {
-    if flush(out, at) {
+    if flush(streams, out, at) {
         let lined = listing::end_line(events, out);
-        show_last(lined, out);
+        show_last(streams, lined, out);
         return;
     }
-    tell_write_error();
+    tell_write_error(streams);
 }
 
-fn show_refused(refusal: Refusal, out: &mut [u8], at: usize)
+fn show_refused(streams: Streams, refusal: Refusal, out: &mut [u8], at: usize)
     requires { at ≤ length out.old }
 {
-    if flush(out, at) {
+    if flush(streams, out, at) {
         let lined = listing::refused_line(refusal, out);
-        show_last(lined, out);
+        show_last(streams, lined, out);
         return;
     }
-    tell_write_error();
+    tell_write_error(streams);
 }
 
-fn show_read_error(out: &mut [u8], at: usize)
+fn show_read_error(streams: Streams, out: &mut [u8], at: usize)
     requires { at ≤ length out.old }
 {
-    if flush(out, at) {
-        io::write_all(STDERR_FILENO, b"abx_list: standard input can't be read\n");
+    if flush(streams, out, at) {
+        tell(streams, b"abx_list: standard input can't be read\n");
         return;
     }
-    tell_write_error();
+    tell_write_error(streams);
 }
 
 // ---- input
@@ -192,6 +209,7 @@ fn close(reader: Stream, window: &[u8], table: &[u32], store: &[u8]) -> Fetched 
 
 // Reads once, as much as the window has room for, so that a feed takes all of it. Only a read of no bytes is the end.
 fn fetch_by(
+    streams: Streams,
     chunk: &mut [u8],
     reader: Stream,
     window: &mut [u8],
@@ -199,23 +217,30 @@ fn fetch_by(
     store: &[u8],
 ) -> Fetched {
     let most = room(reader, window.len(), chunk.len());
-    let got = libc::read(STDIN_FILENO, &mut chunk[..most]);
-    if got < 0 {
-        return Fetched::Failed;
-    }
-    if got == 0 {
-        return close(reader, window, table, store);
-    }
-    let count = io::count(got, chunk);
-    match stream::feed(reader, window, table, store, &chunk[..count]) {
-        Fed::Took { count: _, stream } => Fetched::Stream(stream),
-        Fed::Refused(refusal) => Fetched::Refused(refusal),
+    let mut input = streams.input;
+    match input.read(&mut chunk[..most]) {
+        Ok(count) => {
+            if count == 0 {
+                return close(reader, window, table, store);
+            }
+            match stream::feed(reader, window, table, store, &chunk[..count]) {
+                Fed::Took { count: _, stream } => Fetched::Stream(stream),
+                Fed::Refused(refusal) => Fetched::Refused(refusal),
+            }
+        }
+        Err(_) => Fetched::Failed,
     }
 }
 
-fn fetch(reader: Stream, window: &mut [u8], table: &[u32], store: &[u8]) -> Fetched {
-    let mut chunk = io::large_buffer();
-    fetch_by(&mut chunk, reader, window, table, store)
+fn fetch(
+    streams: Streams,
+    reader: Stream,
+    window: &mut [u8],
+    table: &[u32],
+    store: &[u8],
+) -> Fetched {
+    let mut chunk = [0u8; 65536];
+    fetch_by(streams, &mut chunk, reader, window, table, store)
 }
 
 // ---- the document
@@ -236,6 +261,7 @@ pub enum Turned {
 
 // More input for a reader that needs it.
 fn read_on(
+    streams: Streams,
     reader: Stream,
     events: usize,
     at: usize,
@@ -247,18 +273,18 @@ fn read_on(
     requires { at ≤ length out.old }
     ensures { Within (length out.old) events result }
 {
-    match fetch(reader, window, table, store) {
+    match fetch(streams, reader, window, table, store) {
         Fetched::Stream(fed) => Turned::Go(Listing {
             reader: fed,
             events,
             at,
         }),
         Fetched::Refused(refusal) => {
-            show_refused(refusal, out, at);
+            show_refused(streams, refusal, out, at);
             Turned::Done
         }
         Fetched::Failed => {
-            show_read_error(out, at);
+            show_read_error(streams, out, at);
             Turned::Done
         }
     }
@@ -266,6 +292,7 @@ fn read_on(
 
 // The next event, or a read, or the last line.
 fn turn(
+    streams: Streams,
     l: Listing,
     window: &mut [u8],
     table: &mut [u32],
@@ -284,9 +311,9 @@ fn turn(
             rows: count,
             stream,
         } => {
-            let o = show_rows(window, store, rows, count, out, at);
+            let o = show_rows(streams, window, store, rows, count, out, at);
             if o.failed {
-                tell_write_error();
+                tell_write_error(streams);
                 return Turned::Done;
             }
             Turned::Go(Listing {
@@ -295,13 +322,13 @@ fn turn(
                 at: o.at,
             })
         }
-        Answer::NeedMore(stream) => read_on(stream, events, at, window, table, store, out),
+        Answer::NeedMore(stream) => read_on(streams, stream, events, at, window, table, store, out),
         Answer::End(_) => {
-            show_end(events, out, at);
+            show_end(streams, events, out, at);
             Turned::Done
         }
         Answer::Refused(refusal) => {
-            show_refused(refusal, out, at);
+            show_refused(streams, refusal, out, at);
             Turned::Done
         }
     }
@@ -309,6 +336,7 @@ fn turn(
 
 // Turn by turn. The turns do not run out: each takes a byte of the input, but for those that read.
 fn list_from(
+    streams: Streams,
     first: Stream,
     window: &mut [u8],
     table: &mut [u32],
@@ -323,7 +351,7 @@ fn list_from(
     };
     let mut turns: u64 = 0;
     while turns < 0xFFFF_FFFF_FFFF_FFFF {
-        match turn(l, window, table, store, rows, out) {
+        match turn(streams, l, window, table, store, rows, out) {
             Turned::Go(next) => {
                 l = next;
             }
@@ -335,23 +363,42 @@ fn list_from(
     }
 }
 
-fn list(window: &mut [u8], table: &mut [u32], store: &mut [u8], rows: &mut [u32], out: &mut [u8]) {
+fn list(
+    streams: Streams,
+    window: &mut [u8],
+    table: &mut [u32],
+    store: &mut [u8],
+    rows: &mut [u32],
+    out: &mut [u8],
+) {
     match stream::create(window, table, store) {
         Created::Stream(reader) => {
-            list_from(reader, window, table, store, rows, out);
+            list_from(streams, reader, window, table, store, rows, out);
         }
         Created::Refused(refusal) => {
-            show_refused(refusal, out, 0);
+            show_refused(streams, refusal, out, 0);
         }
     }
 }
 
 // The line buffer takes four digits for each byte of window and store, and a line's short columns.
-fn main() {
-    let mut window = io::large_buffer();
+fn main(rt: HostRuntime) {
+    let streams = Streams {
+        input: rt.stdin(),
+        output: rt.stdout(),
+        errors: rt.stderr(),
+    };
+    let mut window = [0u8; 65536];
     let mut table = [0u32; 16384];
-    let mut store = io::large_buffer();
+    let mut store = [0u8; 65536];
     let mut rows = [0u32; 16384];
     let mut out = [0u8; 262208];
-    list(&mut window, &mut table, &mut store, &mut rows, &mut out);
+    list(
+        streams,
+        &mut window,
+        &mut table,
+        &mut store,
+        &mut rows,
+        &mut out,
+    );
 }

@@ -1,5 +1,7 @@
 // Answers as the words that the exported functions lend. An answer is four words, and is written where there is room for four: 0 and what
 // was asked for; 1 at the end; 2, a refusal's number and its detail; or 3 where a chunk reader needs more.
+#![tactic(auto)]
+
 ghost use Rattle.std.specs.Prelude.{[], ◌∷◌, ◌≡◌};
 ghost use Rattle.abx_words.specs.Words.{answered};
 

@@ -7,11 +7,8 @@ use Rattle.wire.specs.Token.{null, string, bytes_hex, bytes_base64, int, int_hex
 use Rattle.event.specs.Row.{shape}
 use Rattle.event.specs.Words.{attribute_forms}
 use Rattle.event.specs.declared.Shape.{Shape}
-use Rattle.event.specs.declared.Shape.TheVariants as Shape
 use Rattle.attribute_values.specs.declared.AttributeValue.{AttributeValue}
-use Rattle.attribute_values.specs.declared.AttributeValue.TheVariants as AttributeValue
 use Rattle.attribute_values.specs.declared.Accessed.{Accessed}
-use Rattle.attribute_values.specs.declared.Accessed.TheVariants as Accessed
 
 -- what a value carries: nothing; a span, by source, start and length; a signed number; a number's bits
 pub data Content : Type 0 where

@@ -1,4 +1,6 @@
 // Copies of bytes from one slice to another, in blocks (docs/BENCHMARKS.md, the writer, says what they give).
+#![tactic(auto)]
+
 ghost use Rattle.std.specs.Prelude.{◌≡◌, ◌+◌, ◌≤◌, ◌<◌, length, take, drop};
 ghost use Rattle.std.proofs.lemmas.List.Edits.{sets};
 

@@ -11,7 +11,7 @@ use lib.ListN.{length, get_or, take, drop, length-drop, drop_of_length-le, take-
 use lib.Seq.{drop-cons, drop-drop, get_or-drop, length-take-le}
 use Rattle.event.specs.Span.{same}
 use Rattle.equal_bytes.specs.Word.{word_of, Bytes}
-use Rattle.equal_bytes.specs.Laws.{words_same}
+use Rattle.equal_bytes.proofs.Laws.{words_same}
 
 -- ---- single bytes
 

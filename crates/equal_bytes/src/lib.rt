@@ -1,4 +1,6 @@
 // Whether two slices hold the same bytes, by words.
+#![tactic(auto)]
+
 ghost use Rattle.std.specs.Prelude.{◌≡◌, ◌+◌, ◌≤◌, length, take, drop};
 ghost use Rattle.event.specs.Span.{same};
 ghost use Rattle.equal_bytes.specs.Word.{word_of};

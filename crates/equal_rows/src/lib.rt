@@ -1,4 +1,6 @@
 // Which rows of eight words are equal.
+#![tactic(auto)]
+
 ghost use Rattle.std.specs.Prelude.{◌≡◌, ◌≤◌, length, get_or};
 ghost use Rattle.event.specs.Span.{value_in, same};
 ghost use Rattle.event.specs.Row.{row_at, same_value, equal_rows};

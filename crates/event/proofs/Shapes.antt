@@ -7,7 +7,6 @@ use lib.ListN.{get_or}
 use lib.Seq.{get_or-drop}
 use Rattle.event.specs.Row.{shapes, shape}
 use Rattle.event.specs.declared.Shape.{Shape}
-use Rattle.event.specs.declared.Shape.TheVariants as Shape
 
 -- past the last type that is known
 shape-above : (type : ℕ) → 14 ≤ type → shape type ≡ Shape.Unknown

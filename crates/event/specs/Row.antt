@@ -4,7 +4,6 @@ use Rattle.std.specs.Prelude.{Bool, true, false, cond, ◌&&◌, List, [], ◌�
 use Rattle.wire.specs.Token.{start_tag, end_tag, attribute}
 use Rattle.event.specs.Span.{span, same}
 use Rattle.event.specs.declared.Shape.{Shape}
-use Rattle.event.specs.declared.Shape.TheVariants as Shape
 
 -- a value: none; the bytes of a text, a string or a blob; 32 bits; 64 bits, the high word first
 pub data Value : Type 0 where

@@ -4,7 +4,6 @@ use Rattle.wire.specs.Token.{start_tag, text, doc_decl, attribute, string}
 use Rattle.event.specs.Span.{span_in}
 use Rattle.event.specs.Row.{shape}
 use Rattle.event.specs.declared.Shape.{Shape}
-use Rattle.event.specs.declared.Shape.TheVariants as Shape
 
 -- a type is one of three
 unfoldable pub one_of : ℕ → ℕ → ℕ → ℕ → Bool

@@ -1,4 +1,6 @@
 // Rows of eight words: the bytes that their spans name, and what a row has by its kind and type.
+#![tactic(auto)]
+
 ghost use Rattle.std.specs.Prelude.{◌≡◌};
 ghost use Rattle.event.specs.Span.{span, text, span_at, text_at};
 ghost use Rattle.event.specs.Row.{shape, has_name};

@@ -5,149 +5,192 @@
 //   v ROW and 16 words      the value of the attribute in that row
 // The bytes of a part are shown in hex, `=` where it is empty; a value by its case and what it carries; a refusal by number
 // and detail.
+#![tactic(auto)]
+
 ghost use Rattle.std.specs.Prelude.{◌≤◌, length};
 
 use attribute_values::{Accessed, AttributeValue};
-use libc::{STDIN_FILENO, STDOUT_FILENO};
+use std::io::{Print, Read, Stdin, Stdout};
 
-fn show_bytes(s: &[u8]) {
+// ---- input and output
+
+// A write that fails is passed over: the lines that come are compared with those wanted.
+fn put(stdout: Stdout, s: &[u8]) {
+    let _ = stdout.write_all(s);
+}
+
+fn put_decimal(stdout: Stdout, n: u32) {
+    let _ = print!(stdout; "{n}");
+}
+
+fn put_byte(stdout: Stdout, b: u8) {
+    let _ = print!(stdout; "{b:02x}");
+}
+
+fn put_hex(stdout: Stdout, v: u64, digits: usize) {
+    let _ = print!(stdout; "{v:0digits$x}");
+}
+
+// Reads until the buffer is full, the input ends or a read fails; how many bytes came.
+fn read_full(stdin: Stdin, buf: &mut [u8]) -> usize
+    ensures { result ≤ length buf.old }
+{
+    let mut input = stdin;
+    let mut done = 0;
+    while done < buf.len() {
+        match input.read(&mut buf[done..]) {
+            Ok(n) => {
+                if n == 0 {
+                    return done;
+                }
+                done += n;
+            }
+            Err(_) => {
+                return done;
+            }
+        }
+    }
+    done
+}
+
+fn show_bytes(stdout: Stdout, s: &[u8]) {
     if s.len() == 0 {
-        io::write_all(STDOUT_FILENO, b"=");
+        put(stdout, b"=");
         return;
     }
     let mut i = 0;
     while i < s.len() {
-        io::print_hex(STDOUT_FILENO, s[i] as u64, 2);
+        put_byte(stdout, s[i]);
         i += 1;
     }
 }
 
-fn end_line() {
-    io::write_all(STDOUT_FILENO, b"\n");
+fn end_line(stdout: Stdout) {
+    put(stdout, b"\n");
 }
 
 // ---- the accessor
 
-fn show_span(source: u32, start: u32, len: u32) {
-    io::write_all(STDOUT_FILENO, b" ");
-    io::print_decimal(STDOUT_FILENO, source as u64);
-    io::write_all(STDOUT_FILENO, b" ");
-    io::print_decimal(STDOUT_FILENO, start as u64);
-    io::write_all(STDOUT_FILENO, b" ");
-    io::print_decimal(STDOUT_FILENO, len as u64);
+fn show_span(stdout: Stdout, source: u32, start: u32, len: u32) {
+    put(stdout, b" ");
+    put_decimal(stdout, source);
+    put(stdout, b" ");
+    put_decimal(stdout, start);
+    put(stdout, b" ");
+    put_decimal(stdout, len);
 }
 
 // The numbers that are tried here, each by its own digits.
-fn show_int(v: i32) {
+fn show_int(stdout: Stdout, v: i32) {
     if v == 7 {
-        io::write_all(STDOUT_FILENO, b" 7");
+        put(stdout, b" 7");
         return;
     }
     if v == 9 {
-        io::write_all(STDOUT_FILENO, b" 9");
+        put(stdout, b" 9");
         return;
     }
     if v == -1 {
-        io::write_all(STDOUT_FILENO, b" -1");
+        put(stdout, b" -1");
         return;
     }
     if v == -2147483648 {
-        io::write_all(STDOUT_FILENO, b" -2147483648");
+        put(stdout, b" -2147483648");
         return;
     }
     if v == 2147483647 {
-        io::write_all(STDOUT_FILENO, b" 2147483647");
+        put(stdout, b" 2147483647");
         return;
     }
-    io::write_all(STDOUT_FILENO, b" another");
+    put(stdout, b" another");
 }
 
-fn show_long(v: i64) {
+fn show_long(stdout: Stdout, v: i64) {
     if v == 4294967296 {
-        io::write_all(STDOUT_FILENO, b" 4294967296");
+        put(stdout, b" 4294967296");
         return;
     }
     if v == -1 {
-        io::write_all(STDOUT_FILENO, b" -1");
+        put(stdout, b" -1");
         return;
     }
     if v == -9223372036854775808 {
-        io::write_all(STDOUT_FILENO, b" -9223372036854775808");
+        put(stdout, b" -9223372036854775808");
         return;
     }
     if v == 9223372036854775807 {
-        io::write_all(STDOUT_FILENO, b" 9223372036854775807");
+        put(stdout, b" 9223372036854775807");
         return;
     }
-    io::write_all(STDOUT_FILENO, b" another");
+    put(stdout, b" another");
 }
 
-fn show_bits(v: u64, digits: usize) {
-    io::write_all(STDOUT_FILENO, b" ");
-    io::print_hex(STDOUT_FILENO, v, digits);
+fn show_bits(stdout: Stdout, v: u64, digits: usize) {
+    put(stdout, b" ");
+    put_hex(stdout, v, digits);
 }
 
-fn show_value(v: AttributeValue) {
+fn show_value(stdout: Stdout, v: AttributeValue) {
     match v {
         AttributeValue::Null => {
-            io::write_all(STDOUT_FILENO, b"Null");
+            put(stdout, b"Null");
         }
         AttributeValue::String { source, start, len } => {
-            io::write_all(STDOUT_FILENO, b"String");
-            show_span(source, start, len);
+            put(stdout, b"String");
+            show_span(stdout, source, start, len);
         }
         AttributeValue::BytesHex { source, start, len } => {
-            io::write_all(STDOUT_FILENO, b"BytesHex");
-            show_span(source, start, len);
+            put(stdout, b"BytesHex");
+            show_span(stdout, source, start, len);
         }
         AttributeValue::BytesBase64 { source, start, len } => {
-            io::write_all(STDOUT_FILENO, b"BytesBase64");
-            show_span(source, start, len);
+            put(stdout, b"BytesBase64");
+            show_span(stdout, source, start, len);
         }
         AttributeValue::Int(v) => {
-            io::write_all(STDOUT_FILENO, b"Int");
-            show_int(v);
+            put(stdout, b"Int");
+            show_int(stdout, v);
         }
         AttributeValue::IntHex(v) => {
-            io::write_all(STDOUT_FILENO, b"IntHex");
-            show_bits(v as u64, 8);
+            put(stdout, b"IntHex");
+            show_bits(stdout, v as u64, 8);
         }
         AttributeValue::Long(v) => {
-            io::write_all(STDOUT_FILENO, b"Long");
-            show_long(v);
+            put(stdout, b"Long");
+            show_long(stdout, v);
         }
         AttributeValue::LongHex(v) => {
-            io::write_all(STDOUT_FILENO, b"LongHex");
-            show_bits(v, 16);
+            put(stdout, b"LongHex");
+            show_bits(stdout, v, 16);
         }
         AttributeValue::Float(v) => {
-            io::write_all(STDOUT_FILENO, b"Float");
-            show_bits(v as u64, 8);
+            put(stdout, b"Float");
+            show_bits(stdout, v as u64, 8);
         }
         AttributeValue::Double(v) => {
-            io::write_all(STDOUT_FILENO, b"Double");
-            show_bits(v, 16);
+            put(stdout, b"Double");
+            show_bits(stdout, v, 16);
         }
         AttributeValue::Boolean(v) => {
             if v {
-                io::write_all(STDOUT_FILENO, b"Boolean true");
+                put(stdout, b"Boolean true");
             } else {
-                io::write_all(STDOUT_FILENO, b"Boolean false");
+                put(stdout, b"Boolean false");
             }
         }
     }
 }
 
-fn show(answer: Accessed) {
+fn show(stdout: Stdout, answer: Accessed) {
     match answer {
         Accessed::Value(v) => {
-            show_value(v);
+            show_value(stdout, v);
         }
         Accessed::Refused(r) => {
-            io::write_all(STDOUT_FILENO, b"refused ");
-            io::print_decimal(STDOUT_FILENO, r.number as u64);
-            io::write_all(STDOUT_FILENO, b" ");
-            io::print_decimal(STDOUT_FILENO, r.detail as u64);
+            put(stdout, b"refused ");
+            put_decimal(stdout, r.number);
+            put(stdout, b" ");
+            put_decimal(stdout, r.detail);
         }
     }
 }
@@ -202,31 +245,37 @@ fn number_at(s: &[u8], from: usize) -> Number
     Number { value, next: at }
 }
 
-fn span_case(s: &[u8], from: usize) -> usize
+fn span_case(stdout: Stdout, s: &[u8], from: usize) -> usize
     requires { from ≤ length s.now }
     ensures { (from ≤ result) × (result ≤ length s.now) }
 {
     let source = number_at(s, from);
     let start = number_at(s, source.next);
     let len = number_at(s, start.next);
-    show_bytes(event::span(b"abcde", b"xyz", source.value, start.value, len.value));
-    end_line();
+    show_bytes(
+        stdout,
+        event::span(b"abcde", b"xyz", source.value, start.value, len.value),
+    );
+    end_line(stdout);
     len.next
 }
 
-fn text_case(s: &[u8], from: usize) -> usize
+fn text_case(stdout: Stdout, s: &[u8], from: usize) -> usize
     requires { from ≤ length s.now }
     ensures { (from ≤ result) × (result ≤ length s.now) }
 {
     let source = number_at(s, from);
     let start = number_at(s, source.next);
     let len = number_at(s, start.next);
-    show_bytes(event::text(b"abcde", source.value, start.value, len.value));
-    end_line();
+    show_bytes(
+        stdout,
+        event::text(b"abcde", source.value, start.value, len.value),
+    );
+    end_line(stdout);
     len.next
 }
 
-fn value_case(s: &[u8], from: usize) -> usize
+fn value_case(stdout: Stdout, s: &[u8], from: usize) -> usize
     requires { from ≤ length s.now }
     ensures { (from ≤ result) × (result ≤ length s.now) }
 {
@@ -240,33 +289,36 @@ fn value_case(s: &[u8], from: usize) -> usize
         at = word.next;
         i += 1;
     }
-    show(attribute_values::attribute_value(&rows, row.value as usize));
-    end_line();
+    show(
+        stdout,
+        attribute_values::attribute_value(&rows, row.value as usize),
+    );
+    end_line(stdout);
     at
 }
 
 // What the letter asks for; nothing for any other byte.
-fn run_case(s: &[u8], letter: u8, from: usize) -> usize
+fn run_case(stdout: Stdout, s: &[u8], letter: u8, from: usize) -> usize
     requires { from ≤ length s.now }
     ensures { (from ≤ result) × (result ≤ length s.now) }
 {
     match letter {
-        b's' => span_case(s, from),
-        b't' => text_case(s, from),
-        b'v' => value_case(s, from),
+        b's' => span_case(stdout, s, from),
+        b't' => text_case(stdout, s, from),
+        b'v' => value_case(stdout, s, from),
         _ => from,
     }
 }
 
-fn run_cases(s: &[u8]) {
+fn run_cases(stdout: Stdout, s: &[u8]) {
     let mut at = 0;
     while at < s.len() {
-        at = run_case(s, s[at], at + 1);
+        at = run_case(stdout, s, s[at], at + 1);
     }
 }
 
-fn main() {
-    let mut buffer = io::large_buffer();
-    let n = io::read_full(STDIN_FILENO, &mut buffer);
-    run_cases(&buffer[..n]);
+fn main(rt: HostRuntime) {
+    let mut buffer = [0u8; 65536];
+    let n = read_full(rt.stdin(), &mut buffer);
+    run_cases(rt.stdout(), &buffer[..n]);
 }

@@ -12,8 +12,9 @@ use Rattle.wire.specs.Token as Token
 use Rattle.event.specs.declared.Shape.{Shape}
 use Rattle.grammar.specs.Reader.{Read, got, short, refused}
 use Rattle.grammar.specs.Grammar.{Ref, new, known, Value, Item, Items, item, whole, lacks, stops, after, attribute, first, event}
-use Rattle.grammar.specs.Laws.{RefFits, NameFits, ValueFits, ItemFits, good-first}
-use Rattle.grammar.specs.Turn.{rest, attribute-fits}
+use Rattle.grammar.proofs.Laws.{RefFits, NameFits, ValueFits, ItemFits, good-first}
+use Rattle.grammar.specs.Turn.{rest}
+use Rattle.grammar.proofs.Turn.{attribute-fits}
 use Rattle.grammar.specs.Scan.{sound, Outcome, adds, count, lengths, outcome, Measure, measure}
 use Rattle.wire.specs.Limits.{max_store}
 use Rattle.extent.specs.Tally.{RefSmall, NameSmall, ValueSmall, ItemSmall, Bounded, Counts, plus}
@@ -21,8 +22,9 @@ use Rattle.extent.specs.Past.{Unread, ends}
 use Rattle.extent.specs.declared.fields.Pool.{Pool}
 use Rattle.extent.specs.Answers.{sound_of}
 use Rattle.extent.specs.declared.Tally.{Tally}
-use Rattle.grammar.specs.Attributes.{is_attribute, Turn, turn_end, turn-row, turn-short, turn-stops, left-names}
-use Rattle.grammar.specs.Stores.{lengths-append}
+use Rattle.grammar.specs.Attributes.{is_attribute}
+use Rattle.grammar.proofs.Attributes.{Turn, turn_end, turn-row, turn-short, turn-stops, left-names}
+use Rattle.grammar.proofs.Stores.{lengths-append}
 use Rattle.extent.proofs.Tallies.{item-adds}
 
 -- ---- what is measured

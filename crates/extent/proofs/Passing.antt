@@ -11,21 +11,21 @@ use lib.ListN.{length, get_or}
 use Rattle.wire.specs.Token as Token
 use Rattle.wire.specs.Limits.{max_store}
 use Rattle.wire.specs.Refusal.{unexpected_eof, unknown_command}
-use Rattle.grammar.specs.Choice.{by_test}
+use Rattle.grammar.proofs.Choice.{by_test}
 use Rattle.grammar.specs.Reader.{Read, got, short, refused, next}
 use Rattle.grammar.specs.Grammar.{Span, Ref, new, known, Value, Item, lacks, stops, most, counted, counted_name, counted_value, u32, u64, string, name, value, attribute, first}
 use Rattle.grammar.specs.Scan.{sound, adds_ref, adds_name, adds_value, lengths}
-use Rattle.grammar.specs.Laws.{good-name, good-first}
-use Rattle.grammar.specs.Rows.{as_attribute}
-use Rattle.grammar.specs.Values.{as_word, as_pair}
+use Rattle.grammar.proofs.Laws.{good-name, good-first}
+use Rattle.grammar.proofs.Rows.{as_attribute}
+use Rattle.grammar.proofs.Values.{as_word, as_pair}
 use Rattle.extent.specs.Past.{plain, unread, past_ref, past_item, past_row, past_by, past_name, past_value, past_own, Unread, ends, PassedItem}
 use Rattle.extent.specs.Tally.{RefSmall, NameSmall, ValueSmall, ItemSmall, Small, Bounded, Joins, Counts}
 use Rattle.extent.specs.declared.Tally.{Tally}
 use Rattle.extent.specs.declared.past.Past.{Past}
 use Rattle.extent.proofs.Tallies.{joins-none, new-added, new-bytes, counts, ref-adds}
 use Rattle.extent.proofs.Measuring.{ref-small, attribute-small}
-use Rattle.grammar.specs.Rows.{name-within, attribute-short, attribute-refused, attribute-is, first-bare, first-tag, first-other, first-text, first-textless, Plain, first_plain}
-use Rattle.grammar.specs.Turn.{attribute-fits}
+use Rattle.grammar.proofs.Rows.{name-within, attribute-short, attribute-refused, attribute-is, first-bare, first-tag, first-other, first-text, first-textless, Plain, first_plain}
+use Rattle.grammar.proofs.Turn.{attribute-fits}
 
 -- ---- what was passed over was read, or not
 

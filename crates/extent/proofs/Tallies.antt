@@ -9,8 +9,8 @@ use lib.Dec.{ltb}
 use lib.ListN.{length, length-append}
 use Rattle.grammar.specs.Grammar.{Span, Ref, new, known, Value, Item, most, counted_name, counted_value, after}
 use Rattle.grammar.specs.Scan.{adds_ref, adds_name, adds_value, adds_item, lengths}
-use Rattle.grammar.specs.Choice.{by_test}
-use Rattle.grammar.specs.Stores.{lengths-append}
+use Rattle.grammar.proofs.Choice.{by_test}
+use Rattle.grammar.proofs.Stores.{lengths-append}
 use Rattle.wire.specs.Limits.{max_store}
 use Rattle.extent.specs.Tally.{RefSmall, NameSmall, ValueSmall, ItemSmall, Joins, Counts}
 use Rattle.extent.specs.declared.Tally.{Tally}

@@ -6,11 +6,8 @@ use Rattle.grammar.specs.Grammar.{Span, Ref, new, known, Items, most, attributes
 use Rattle.grammar.specs.Scan.{sound, Measure}
 use Rattle.grammar.specs.Scan as Scan
 use Rattle.extent.specs.declared.fields.Number.{Number}
-use Rattle.extent.specs.declared.fields.Number.TheVariants as Number
 use Rattle.extent.specs.declared.fields.Text.{Text}
-use Rattle.extent.specs.declared.fields.Text.TheVariants as Text
 use Rattle.extent.specs.declared.fields.Name.{Name}
-use Rattle.extent.specs.declared.fields.Name.TheVariants as Name
 use Rattle.extent.specs.declared.fields.Pool.{Pool}
 use Rattle.extent.specs.declared.Outcome as Coded
 use Rattle.extent.specs.declared.Outcome.TheVariants as Outcome

@@ -99,7 +99,7 @@ pub enum Name {
 
 // What is known of the pool: so many entries of its table are names, whose spans must end in a store of so many bytes; with those
 // that are new in this event there are so many names.
-#[derive(Drop)]
+#[derive(Clone, Copy)]
 pub struct Pool {
     pub kept: usize,
     pub stored: usize,

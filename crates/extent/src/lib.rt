@@ -1,5 +1,7 @@
 // The first pass over an event: how many rows it has, how many names it adds to the pool and how many bytes these have, and whether it
 // is complete. It writes nothing. Module fields has readers of the wire's fields, module past how far they go.
+#![tactic(auto)]
+
 mod fields;
 mod past;
 
@@ -35,7 +37,7 @@ pub struct Measured {
 }
 
 // What has been read of an event: the pool with the names so far, the rows, the names that join the pool, and their bytes.
-#[derive(Drop)]
+#[derive(Clone, Copy)]
 struct Tally {
     pool: Pool,
     rows: usize,
@@ -76,7 +78,7 @@ fn with_past(tally: Tally, past: Past) -> Tally
 }
 
 fn told(tally: Tally, outcome: Outcome) -> Measured
-    ensures* { λ r. ⌜ measured_of r ≡ record { rows = tally.rows; added = tally.added; bytes = tally.bytes; result = outcome_of outcome } ⌝ }
+    ensures { measured_of result ≡ record { rows = tally.rows; added = tally.added; bytes = tally.bytes; result = outcome_of outcome } }
 {
     Measured {
         rows: tally.rows,

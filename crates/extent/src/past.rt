@@ -12,7 +12,7 @@ use event::Shape;
 use wire::{Command, Refusal, Type};
 
 // The place after what was read, and 1 and the bytes of its name where that is new. A place of 0: it was not read.
-#[derive(Drop)]
+#[derive(Clone, Copy)]
 pub struct Past {
     pub next: usize,
     pub fresh: usize,

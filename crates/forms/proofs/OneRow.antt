@@ -2,14 +2,13 @@
 use mathlib.Core.Bool.{Bool, false, cond, and-true}
 use mathlib.Core.List.{List}
 use mathlib.Core.Path.{◌≡◌, refl}
-use Prim.Native.Nat.{ℕ, ◌+◌, ◌-◌, ◌/◌, ◌%◌, ◌≤◌}
+use Prim.Native.Nat.{ℕ, ◌+◌, ◌/◌, ◌%◌, ◌≤◌}
 use native.Mathlib.Omega.{arith}
 use lib.Dec.{eqb}
 use lib.ListN.{length, get_or, take, drop, length-take, length-drop}
 use lib.Seq.{get_or-take}
 use Rattle.event.specs.Words.{zeros, value_forms, attribute_forms, row_forms, row_forms_in, rows_form}
 use Rattle.event.specs.declared.Shape.{Shape}
-use Rattle.event.specs.declared.Shape.TheVariants as Shape
 
 word : (w : List ℕ) (i : ℕ) → i ≤ 7 → get_or (take 8 w) i 0 ≡ get_or w i 0
 word w i h = get_or-take 8 w i 0 (omega arith)

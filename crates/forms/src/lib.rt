@@ -1,4 +1,6 @@
 // Which words form rows, an event and an event list.
+#![tactic(auto)]
+
 ghost use Rattle.std.specs.Prelude.{false, cond, ◌≡◌, ◌+◌, ◌*◌, ◌/◌, ◌%◌, ◌≤◌, eqb, length, get_or};
 ghost use Rattle.event.specs.Span.{span_in};
 ghost use Rattle.event.specs.Row.{shape};

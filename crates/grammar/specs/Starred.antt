@@ -15,9 +15,9 @@ pub record Case : Type 0 where
   pub input : List ℕ
   pub reading : Reading
 
-infix 10 ◌reads-as◌
-abbrev pub ◌reads-as◌ : List ℕ → Reading → Case
-◌reads-as◌ s r = record { input = s; reading = r }
+infix 10 ◌reads_as◌
+abbrev pub ◌reads_as◌ : List ℕ → Reading → Case
+◌reads_as◌ s r = record { input = s; reading = r }
 
 -- the header
 abbrev pub H : List ℕ

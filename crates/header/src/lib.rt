@@ -1,4 +1,6 @@
 // The header of a document.
+#![tactic(auto)]
+
 ghost use Rattle.std.specs.Prelude.{◌≡◌};
 ghost use Rattle.wire.specs.Header.{header};
 ghost use Rattle.header.specs.Answers.{header_of};

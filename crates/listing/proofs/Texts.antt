@@ -14,7 +14,6 @@ use Rattle.wire.specs.Token.{attribute}
 use Rattle.event.specs.Span.{span}
 use Rattle.event.specs.Row.{has_name, shape, value_at, row_at}
 use Rattle.event.specs.declared.Shape.{Shape}
-use Rattle.event.specs.declared.Shape.TheVariants as Shape
 use Rattle.text.specs.Numerals.{digit, hex}
 use Rattle.text.specs.Laws.{numeral-one, numeral-more, hex-length}
 use Rattle.listing.specs.Text.{newline, space, dash, equals, decimal, field}

@@ -2,7 +2,6 @@
 use Rattle.std.specs.Prelude.{List, ℕ}
 use Rattle.listing.specs.Line.{Left, wrote, refused}
 use Rattle.listing.specs.declared.Lined.{Lined}
-use Rattle.listing.specs.declared.Lined.TheVariants as Lined
 
 abbrev pub lined_of : List ℕ → Lined → Left
 lined_of out (Lined.Line n) = record { reply = wrote n; out = out }

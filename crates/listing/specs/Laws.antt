@@ -2,10 +2,9 @@
 use Rattle.std.specs.Prelude.{List, ◌≡◌, ℕ, ◌*◌, ◌/◌, ◌≤◌, leb, ltb, length, drop}
 use Rattle.std.proofs.Common.{sym, ap, ◌∙◌, leb-true, arith}
 use Rattle.event.specs.Row.{row_at}
-use Rattle.grammar.specs.Choice.{by_test}
+use Rattle.grammar.proofs.Choice.{by_test}
 use Rattle.listing.specs.Answers.{lined_of}
 use Rattle.listing.specs.declared.Lined.{Lined}
-use Rattle.listing.specs.declared.Lined.TheVariants as Lined
 use Rattle.listing.specs.Line.{Left, Reply, wrote, refused, line, put, put_row}
 
 -- how much of the output a reply took

@@ -1,4 +1,6 @@
 // The listing: a row as a line of text, and a listing's last line.
+#![tactic(auto)]
+
 ghost use Rattle.std.specs.Prelude.{[], ◌∷◌, ◌++◌, ◌≡◌, ◌≤◌, ◌<◌, length};
 ghost use Rattle.text.specs.Numerals.{digit};
 ghost use Rattle.text.specs.Put.{Put};

@@ -1,4 +1,6 @@
 // Names as the writer compares and hashes them.
+#![tactic(auto)]
+
 ghost use Rattle.std.specs.Prelude.{◌≡◌, ◌+◌, ◌≤◌, ◌<◌, length};
 ghost use Rattle.wire.specs.Header.{u32_at};
 ghost use Rattle.event.specs.Span.{same};

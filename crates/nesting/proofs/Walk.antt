@@ -13,12 +13,12 @@ use Rattle.wire.specs.Token.{start_document, end_document, start_tag, end_tag, i
 use Rattle.event.specs.Span.{same}
 use Rattle.event.specs.Laws.{both, same_refl}
 use Rattle.event.specs.Row.{Row, has_name, row_at, rows_at}
-use Rattle.grammar.specs.Choice.{by_test}
+use Rattle.grammar.proofs.Choice.{by_test}
 use Rattle.nesting_spec.specs.Nesting.{Name, depth, document}
 use Rattle.nesting_spec.specs.OnePass.{Tag, start, end, begins, ends, anywhere, inside, outside, tag_of, none, nested, rooted, begun, passes}
-use Rattle.nesting_spec.specs.Agreement.{document-passes}
-use Rattle.nesting_spec.specs.Kinds as Kinds
-use Rattle.nesting_spec.specs.Kinds.{by_kind}
+use Rattle.nesting_spec.proofs.Agreement.{document-passes}
+use Rattle.nesting_spec.proofs.KindLaws as Kinds
+use Rattle.nesting_spec.proofs.KindLaws.{by_kind}
 use Rattle.nesting.specs.Reading.{name_at, same_spans, same_names, tags_from, opening, Passes, Breaks, ContentsTo, ElementTo}
 
 outside-past : (k : ℕ) → outside k ≡ true → end_tag < k

@@ -1,7 +1,6 @@
 -- What the code's answer says, in the terms of the definition.
 use Rattle.nesting_spec.specs.Nesting.{Answer, yes, no, refused}
 use Rattle.nesting.specs.declared.Nesting.{Nesting}
-use Rattle.nesting.specs.declared.Nesting.TheVariants as Nesting
 
 abbrev pub nesting_of : Nesting → Answer
 nesting_of Nesting.Yes = yes

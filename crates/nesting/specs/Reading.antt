@@ -6,7 +6,6 @@ use Rattle.event.specs.Row.{rows_at}
 use Rattle.nesting_spec.specs.Nesting.{Name, depth}
 use Rattle.nesting_spec.specs.OnePass.{Tag, tag_of, nested}
 use Rattle.nesting.specs.declared.Step.{Step}
-use Rattle.nesting.specs.declared.Step.TheVariants as Step
 
 -- whether the name words of rows i and j are the same
 unfoldable pub same_spans : List ℕ → ℕ → ℕ → Bool

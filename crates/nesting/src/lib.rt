@@ -1,4 +1,6 @@
 // The nesting check: an element's contents hold elements, and each element holds contents.
+#![tactic(auto)]
+
 ghost use Rattle.std.specs.Prelude.{List, [], ◌≡◌, ℕ, ◌+◌, ◌*◌, ◌/◌, ◌≤◌, ◌<◌, length, get_or};
 ghost use Rattle.wire.specs.Token.{start_tag};
 ghost use Rattle.event.specs.Row.{rows_at};

@@ -1,4 +1,6 @@
 // The nesting check's answers as words.
+#![tactic(auto)]
+
 ghost use Rattle.std.specs.Prelude.{◌≡◌};
 ghost use Rattle.nesting.specs.Answers.{nesting_of};
 ghost use Rattle.abx_words.specs.Words.{answered, nesting_words};

@@ -8,7 +8,6 @@ use Rattle.slice_spec.specs.Queries.{Query, query}
 use Rattle.slice_spec.specs.Queries as Queries
 use Rattle.slice_spec.specs.Parser.{by_query, asks}
 use Rattle.slice.specs.declared.queries.Queried.{Queried}
-use Rattle.slice.specs.declared.queries.Queried.TheVariants as Queried
 use Rattle.slice.specs.Answers as Reader
 use Rattle.parser_steps.specs.declared.Sought.{Sought}
 use Rattle.parser_steps.specs.Answers.{parser_at, sought_of, refused_at, asked_by}

@@ -1,4 +1,6 @@
 // The slice reader that carries the caller's document with it: a struct over the calls of the crates slice and slice_queries.
+#![tactic(auto)]
+
 ghost use Rattle.std.specs.Prelude.{◌≡◌};
 ghost use Rattle.slice_spec.specs.Queries.{find-attribute, attributes-of, find-all-attributes, all-attributes-of};
 ghost use Rattle.slice_spec.specs.Parser.{new, next, asks, text, text_at};

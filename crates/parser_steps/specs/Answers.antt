@@ -6,12 +6,9 @@ use Rattle.slice_spec.specs.Queries.{Ending, found, done}
 use Rattle.slice_spec.specs.Parser.{Parser, Left}
 use Rattle.slice_spec.specs.Parser as Defined
 use Rattle.slice.specs.declared.queries.Queried.{Queried}
-use Rattle.slice.specs.declared.queries.Queried.TheVariants as Queried
 use Rattle.parser_steps.specs.declared.Opened.{Opened}
 use Rattle.parser_steps.specs.declared.Parsed.{Parsed}
-use Rattle.parser_steps.specs.declared.Parsed.TheVariants as Parsed
 use Rattle.parser_steps.specs.declared.Asked.{Asked}
-use Rattle.parser_steps.specs.declared.Asked.TheVariants as Asked
 use Rattle.parser_steps.specs.declared.Sought.{Sought}
 
 -- a parser by its fields

@@ -1,4 +1,6 @@
 // What the parser's methods do with the slice reader's answers: a new parser's numbers, its next event, a query's place apart.
+#![tactic(auto)]
+
 ghost use Rattle.std.specs.Prelude.{◌≡◌};
 ghost use Rattle.slice_spec.specs.Parser.{new, next};
 ghost use Rattle.parser_steps.specs.Answers.{parser_at, opened_of, left_by, sought_of, refused_at};

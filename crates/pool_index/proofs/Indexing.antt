@@ -8,7 +8,7 @@ use lib.Dec.{eqb}
 use lib.ListN.{length, get_or, set, length-set}
 use lib.Seq.{get_or-set_same, get_or-set_other}
 use Rattle.slots.specs.Slots.{Fresh}
-use Rattle.grammar.specs.Choice.{by_test}
+use Rattle.grammar.proofs.Choice.{by_test}
 use Rattle.writer_spec.specs.Search.{end_of}
 use Rattle.pool_index.specs.Index.{Inside, slot_at, Up, Chained, Indexed}
 

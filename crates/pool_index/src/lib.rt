@@ -3,6 +3,8 @@
 // The index has by slots the pairs before the first that ends outside the output. A pair is named by how far it is from 65,535, so
 // that 0 names none. There are each slot's first pair (16,384 words), the number of those pairs, and of each pair the next of
 // its slot.
+#![tactic(auto)]
+
 ghost use Rattle.std.specs.Prelude.{◌≡◌, ◌+◌, ◌*◌, ◌-◌, ◌≤◌, ◌<◌, length, get_or, set};
 ghost use Rattle.slots.specs.Slots.{slot_of, Fresh};
 ghost use Rattle.writer_spec.specs.Search.{end_of};

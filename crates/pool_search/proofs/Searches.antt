@@ -10,7 +10,7 @@ use borrow.Author.Tests.{le-leb, lt-leb}
 use lib.ListN.{length, get_or, take, drop}
 use lib.Seq.{drop-drop, get_or-drop}
 use Rattle.event.specs.Span.{part, same}
-use Rattle.grammar.specs.Choice.{by_test}
+use Rattle.grammar.proofs.Choice.{by_test}
 use Rattle.writer_spec.specs.Encode.{find}
 use Rattle.writer_spec.specs.Writer.{pool_at, meets_bad}
 use Rattle.pool_search.specs.Search.{searched}

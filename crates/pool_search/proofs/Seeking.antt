@@ -12,7 +12,7 @@ use Rattle.event.specs.Span.{same}
 use Rattle.event.specs.Laws.{same_refl}
 use Rattle.names.specs.Laws.{same_not}
 use Rattle.slots.specs.Slots.{slot_of}
-use Rattle.grammar.specs.Choice.{by_test}
+use Rattle.grammar.proofs.Choice.{by_test}
 use Rattle.writer_spec.specs.Search.{end_of}
 use Rattle.pool_search.specs.Search.{searched}
 use Rattle.pool_index.specs.Index.{pair_name, slot_at, Up, Indexed}

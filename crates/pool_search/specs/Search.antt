@@ -4,7 +4,6 @@ use Rattle.std.proofs.Math.Option.{Option, none, some}
 use Rattle.writer_spec.specs.Encode.{find}
 use Rattle.writer_spec.specs.Writer.{pool_at, meets_bad}
 use Rattle.pool_search.specs.declared.Found.{Found}
-use Rattle.pool_search.specs.declared.Found.TheVariants as Found
 
 -- the place of the first equal entry; nothing at all where the search is refused
 unfoldable pub searched : List ℕ → ℕ → List ℕ → List ℕ → Option (Option ℕ)

@@ -1,4 +1,6 @@
 // The search of a writer's pool for a name: pair by pair, or by the index of the pairs.
+#![tactic(auto)]
+
 ghost use Rattle.std.specs.Prelude.{◌≡◌, ◌+◌, ◌*◌, ◌≤◌, length, take, drop};
 ghost use Rattle.event.specs.Span.{same};
 ghost use Rattle.pool_index.specs.Index.{Indexed, MaybeIndexed};

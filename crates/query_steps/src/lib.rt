@@ -1,4 +1,6 @@
 // A query from one event to the next: whether it goes on, and its answer where it is over.
+#![tactic(auto)]
+
 ghost use Rattle.std.specs.Prelude.{List, ◌≡◌, ℕ};
 ghost use Rattle.scanner.specs.Select.{query_of};
 ghost use Rattle.slice_spec.specs.Queries.{ends};
@@ -36,8 +38,8 @@ pub fn after(wanted: Query, kind: u32, count: usize) -> Onward
 }
 
 // Whether a query is over.
-pub fn is_over(onward: Onward) -> bool
-    ensures { result ≡ stops (step_of onward) }
+pub fn is_over(onward: &Onward) -> bool
+    ensures { result ≡ stops (step_of onward.now) }
 {
     match onward {
         Onward::Next => false,

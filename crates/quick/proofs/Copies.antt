@@ -5,7 +5,7 @@ use Prim.Native.Nat.{ℕ, suc, ◌+◌, ◌*◌, ◌≤◌, ◌<◌}
 use native.Mathlib.Omega.{arith}
 use lib.ListN.{length, get_or, take, drop}
 use lib.Seq.{sets, take-add, drop-cons, length-take-le}
-use Rattle.grammar.specs.Stores.{sets-append}
+use Rattle.grammar.proofs.Stores.{sets-append}
 
 -- eight words from a place on
 pub eight : (words : List ℕ) (at : ℕ) → at + 8 ≤ length words

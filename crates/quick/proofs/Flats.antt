@@ -15,19 +15,18 @@ use Rattle.wire.specs.Token.{interned_new}
 use Rattle.utf8.specs.Utf8.{well_formed}
 use Rattle.event.specs.Row.{shapes, shape}
 use Rattle.event.specs.declared.Shape.{Shape}
-use Rattle.event.specs.declared.Shape.TheVariants as Shape
 use Rattle.grammar.specs.Reader.{got, give}
 use Rattle.grammar.specs.Grammar.{known, Value, u16, u32, u64, blob, string, counted, counted_name, counted_value, after, name, shaped, value}
 use Rattle.grammar.specs.Document.{type_of}
 use Rattle.grammar.specs.Scan.{sound, adds_ref, adds_name, adds_value, adds_item, span_words, ref_words, name_words, value_words, item_words}
 use Rattle.quick.specs.declared.Flat.{Flat}
 use Rattle.quick.specs.Quick.{words_of, KnownName, ReadSpan, count_of, counts_of, word_counts, numbered, ReadNumber, ReadValue, ReadAttribute}
-use Rattle.grammar.specs.Fields.{blob-good, string-good}
-use Rattle.grammar.specs.Names.{name-known}
-use Rattle.grammar.specs.Values.{value-by}
-use Rattle.grammar.specs.Rows.{as_attribute}
-use Rattle.grammar.specs.Rows.{attribute-is}
-use Rattle.grammar.specs.Binds.{bind-got}
+use Rattle.grammar.proofs.Fields.{blob-good, string-good}
+use Rattle.grammar.proofs.Names.{name-known}
+use Rattle.grammar.proofs.Values.{value-by}
+use Rattle.grammar.proofs.Rows.{as_attribute}
+use Rattle.grammar.proofs.Rows.{attribute-is}
+use Rattle.grammar.proofs.Binds.{bind-got}
 
 -- ---- a name by index, and the span of a blob or a string
 

@@ -6,7 +6,7 @@ use native.Mathlib.Omega.{arith}
 use lib.ListN.{length, take, drop}
 use lib.Seq.{sets, sets-eq, length-sets, take_at}
 use Rattle.grammar.specs.Grammar.{Items}
-use Rattle.grammar.specs.Said.{words-length}
+use Rattle.grammar.proofs.Said.{words-length}
 use Rattle.grammar.specs.Scan.{words}
 use Rattle.quick.specs.declared.Taken.{Taken}
 use Rattle.quick.specs.Quick.{ReadEvent, Quickly, taken}

@@ -13,15 +13,16 @@ use Rattle.wire.specs.Token.{command}
 use Rattle.grammar.specs.Reader.{got}
 use Rattle.grammar.specs.Grammar.{known, Value, Item, Items, item, whole, counted, counted_name, counted_value, after, first, event}
 use Rattle.grammar.specs.Document.{type_of}
-use Rattle.grammar.specs.Said.{item-length}
+use Rattle.grammar.proofs.Said.{item-length}
 use Rattle.grammar.specs.Scan.{adds, adds_item, adds_name, adds_ref, adds_value, count, ref_words, name_words, value_words, item_words, words, outcome, complete}
-use Rattle.grammar.specs.Stores.{sets-append}
+use Rattle.grammar.proofs.Stores.{sets-append}
 use Rattle.quick.specs.declared.Flat.{Flat}
 use Rattle.quick.specs.declared.Taken.{Taken}
-use Rattle.grammar.specs.Rows.{as_tag}
+use Rattle.grammar.proofs.Rows.{as_tag}
 use Rattle.quick.specs.Quick.{words_of, KnownName, ReadAttribute, ReadRest, ReadEvent}
-use Rattle.grammar.specs.Turn.{rest, rest_more, rest-other}
-use Rattle.grammar.specs.Rows.{first-tag}
+use Rattle.grammar.specs.Turn.{rest}
+use Rattle.grammar.proofs.Turn.{rest_more, rest-other}
+use Rattle.grammar.proofs.Rows.{first-tag}
 
 module _ (names source base : ℕ) (table : List ℕ) where
   -- what was to be read and stored at the start, and what is left of it now

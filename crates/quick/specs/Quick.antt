@@ -4,7 +4,6 @@ use Rattle.std.proofs.lemmas.List.Edits.{sets}
 use Rattle.wire.specs.Header.{u32_at}
 use Rattle.event.specs.Row.{shapes}
 use Rattle.event.specs.declared.Shape.{Shape}
-use Rattle.event.specs.declared.Shape.TheVariants as Shape
 use Rattle.grammar.specs.Reader.{Reader, got}
 use Rattle.grammar.specs.Grammar.{Span, known, Value, Item, Items, counted_value, after, name, value, attribute, attributes_f, event}
 use Rattle.grammar.specs.Scan.{sound, adds_value, adds_item, adds, count, value_words, item_words, words, outcome, complete}

@@ -1,6 +1,8 @@
 // The quick way: an end tag, or a start tag with up to nine attributes that is not at the input's end, each name and interned
 // string known, read in one pass, its rows written where they have room. All else is declined, and the two passes of the scanner read it:
 // to decline promises nothing. A token's command and type are taken by the token table's rule, which spares the table.
+#![tactic(auto)]
+
 ghost use Rattle.std.specs.Prelude.{cond, ◌∷◌, ◌++◌, ◌≡◌, ◌+◌, ◌*◌, ◌≤◌, ◌<◌, length, get_or, take, drop};
 ghost use Rattle.std.proofs.lemmas.List.Edits.{sets};
 ghost use Rattle.grammar.specs.Reader.{got};
@@ -15,14 +17,14 @@ ghost use Rattle.quick.specs.Quick.{sound_of, attributes_of, event_of, word_coun
 use wire::{Command, Type, limits};
 
 // So many entries of the table are names, whose spans must end in a store of so many bytes.
-#[derive(Drop)]
+#[derive(Clone, Copy)]
 struct Pool {
     names: usize,
     stored: usize,
 }
 
 // Three words of a row, and the place after what they were read from; 0 there: declined.
-#[derive(Drop)]
+#[derive(Clone, Copy)]
 pub struct Flat {
     pub source: u32,
     pub a: u32,

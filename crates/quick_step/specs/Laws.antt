@@ -1,11 +1,10 @@
 -- What a step's first refusal says of its stores, and what it says where there is none.
 use Rattle.std.specs.Prelude.{Bool, true, false, List, ◌≡◌, ℕ, ◌+◌, ◌*◌, ◌≤◌, ltb, length}
-use Rattle.std.proofs.Common.{true≢false, sym, ◌∙◌, arith}
+use Rattle.std.proofs.Common.{true≢false, ◌∙◌, arith}
 use borrow.Author.Tests.{ltb-false}
 use Rattle.wire.specs.Limits.{max_store}
-use Rattle.wire.specs.Refusal.{bad_size, bad_state}
-use Rattle.grammar.specs.Choice.{by_test}
-use Rattle.quick_step.specs.Step.{refused, Left, too_long, outside, refused_first, step}
+use Rattle.grammar.proofs.Choice.{by_test}
+use Rattle.quick_step.specs.Step.{refused, too_long, outside, refused_first, step}
 
 module _ (base len : ℕ) (copied : Bool) (store : ℕ) where
   pub not-long : too_long base len copied store ≡ false → (base + len ≤ max_store) × (copied ≡ true → store ≤ max_store)

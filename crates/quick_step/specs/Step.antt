@@ -1,5 +1,5 @@
 -- One event: read and, where there is room, written. The slice reader and the chunk reader share this step.
-use Rattle.std.specs.Prelude.{Bool, true, ◌||◌, ◌&&◌, cond, List, ◌≡◌, ℕ, ◌+◌, ◌*◌, ◌/◌, ◌≤◌, ◌<◌, length, ltb}
+use Rattle.std.specs.Prelude.{Bool, ◌||◌, ◌&&◌, cond, List, ◌≡◌, ℕ, ◌+◌, ◌*◌, ◌/◌, ◌<◌, length, ltb}
 use Rattle.std.proofs.lemmas.List.Edits.{sets}
 use Rattle.wire.specs.Refusal.{bad_size, bad_state, rows_full, pool_full, names_full}
 use Rattle.wire.specs.Limits.{max_store}

@@ -1,4 +1,6 @@
 // The step that both readers share, the quick way; and what a step checks before it looks at the event.
+#![tactic(auto)]
+
 ghost use Rattle.std.specs.Prelude.{cond, ◌≡◌, ◌+◌};
 ghost use Rattle.quick_step.specs.Step.{too_long, outside, refused_first, SteppedQuickly};
 

@@ -6,18 +6,18 @@ use Prim.Native.Nat.{ℕ, ◌+◌, ◌*◌, ◌≤◌, ◌<◌}
 use native.Mathlib.Omega.{arith}
 use borrow.Author.Tests.{eqb-true, eqb-false, ne_eqb}
 use lib.Dec.{eqb}
-use lib.ListN.{length, get_or, take, drop}
+use lib.ListN.{length, get_or, drop}
 use lib.Seq.{sets, sets-eq, drop-length}
 use Rattle.wire.specs.Token as Token
-use Rattle.grammar.specs.Choice.{by_test}
+use Rattle.grammar.proofs.Choice.{by_test}
 use Rattle.grammar.specs.Grammar.{Item, Items, item, whole, after, first, event}
 use Rattle.grammar.specs.Scan.{adds_item, adds, count, item_words, words}
-use Rattle.grammar.specs.Added.{after-adds}
-use Rattle.grammar.specs.Said.{item-length}
-use Rattle.grammar.specs.Binds.{Got}
-use Rattle.grammar.specs.Rows.{first_kind}
+use Rattle.grammar.proofs.Added.{after-adds}
+use Rattle.grammar.proofs.Said.{item-length}
+use Rattle.grammar.proofs.Binds.{Got}
+use Rattle.grammar.proofs.Rows.{first_kind}
 use Rattle.grammar.specs.Turn.{rest}
-use Rattle.grammar.specs.Attributes.{Own, own-tag, own-single, own_row, own-before}
+use Rattle.grammar.proofs.Attributes.{Own, own-tag, own-single, own_row, own-before}
 use Rattle.grammar.specs.Trusted.{always}
 use Rattle.scanner.specs.declared.fill.Home.{Home}
 use Rattle.scanner.specs.declared.fill.Kept.{Kept}
@@ -154,7 +154,7 @@ module _ (base : ℕ) (s : List ℕ) (names : ℕ) (all : Items) (table table₁
       go (i ∷ is) e = omega (arith, ap length e)
 
   by_row : (i : Item) → f.those ≡ i ∷ [] → OneFilled base s names all table table₁ row₁ from others a
-  unfolding prepend adds words take
+  unfolding prepend adds words
   by_row i e =
       let n : adds names (only (i ∷ [])) ≡ adds_item names i = append-nil (adds_item names i) in
       let k = rw (e, n) at f.keeps in

@@ -9,15 +9,16 @@ use lib.Dec.{leb, eqb}
 use lib.ListN.{length, get_or, length-append}
 use lib.Seq.{sets, length-sets}
 use Rattle.wire.specs.Token as Token
-use Rattle.grammar.specs.Choice.{by_test}
-use Rattle.grammar.specs.Grammar.{Span, Item, Items, item, whole, after, event}
+use Rattle.grammar.proofs.Choice.{by_test}
+use Rattle.grammar.specs.Grammar.{Span, Item, Items, item, whole, event}
 use Rattle.grammar.specs.Scan.{adds_item, adds, pairs, item_words, count}
-use Rattle.grammar.specs.Added.{after-adds}
-use Rattle.grammar.specs.Stores.{sets-append, pairs-append, pairs-length}
-use Rattle.grammar.specs.Said.{item-length}
-use Rattle.grammar.specs.Rows.{first_kind}
+use Rattle.grammar.proofs.Added.{after-adds}
+use Rattle.grammar.proofs.Stores.{sets-append, pairs-append, pairs-length}
+use Rattle.grammar.proofs.Said.{item-length}
+use Rattle.grammar.proofs.Rows.{first_kind}
 use Rattle.grammar.specs.Turn.{rest}
-use Rattle.grammar.specs.Attributes.{is_attribute, turn_end, turn-row, attribute-before, own-before, own_row}
+use Rattle.grammar.specs.Attributes.{is_attribute}
+use Rattle.grammar.proofs.Attributes.{turn_end, turn-row, attribute-before, own-before, own_row}
 use Rattle.grammar.specs.Trusted.{always}
 use Rattle.slice_spec.specs.Queries.{Words, named, is_element, concat, kind_of}
 use Rattle.scanner.specs.declared.fill.Ahead.{Ahead}
@@ -178,10 +179,13 @@ module _ (base : ℕ) (s document name : List ℕ) (all one still write : Bool) 
       unfolding taken
       skips e = by_test looking (λ l. rw l (let z = rw l at e in rw z)) (λ l. rw l)
 
+      later : cond one [] (taken all one document name after-it) ≡ takes (not one) after-it
+      later = by_test one (λ u. rw u) (λ u. rw u)
+
       picks : wanted ≡ true → takes looking (row ∷ after-it) ≡ row ∷ takes (not one) after-it
       unfolding taken
       picks e =
-          by_test looking (λ l. rw l (let z = rw l at e in rw z (by_test one (λ u. rw u) (λ u. rw u)))) (λ l. absurd (true≢false (sym (rw l at e))))
+          by_test looking (λ l. rw l (let z = rw l at e in rw z (ap (λ (ws : List Words). row ∷ ws) later))) (λ l. absurd (true≢false (sym (rw l at e))))
 
       next : (looking₁ : Bool) (n₁ : ℕ) (rows₁ : List ℕ) → length rows₁ ≡ length rows → n₁ + length (takes looking₁ after-it) ≡ total → stored n₁ (takes looking₁ after-it) rows₁ ≡ written
           → Taking final total written a.kept.names js looking₁ n₁ table₁ rows₁

@@ -11,10 +11,10 @@ use Rattle.wire.specs.Token.{interned_new}
 use Rattle.grammar.specs.Reader.{Read, got, short, refused, next}
 use Rattle.grammar.specs.Grammar.{Span, Ref, new, known, Value, u16, u32, u64, blob, name}
 use Rattle.grammar.specs.Scan.{adds_ref, adds_value, span_words, ref_words, value_words}
-use Rattle.grammar.specs.Binds.{Got}
-use Rattle.grammar.specs.Values.{as_text, as_interned, as_word, as_pair}
+use Rattle.grammar.proofs.Binds.{Got}
+use Rattle.grammar.proofs.Values.{as_text, as_interned, as_word, as_pair}
 use Rattle.grammar.specs.Trusted.{always}
-use Rattle.grammar.specs.Again.{blob-two, blob-spans, name-two, u32-four, u64-eight, new_two, new-spans, known-below, known_is}
+use Rattle.grammar.proofs.Again.{blob-two, blob-spans, name-two, u32-four, u64-eight, new_two, new-spans, known-below, known_is}
 use Rattle.scanner.specs.declared.fill.Home.{Home}
 use Rattle.scanner.specs.declared.fill.Kept.{Kept}
 use Rattle.scanner.specs.declared.fill.Filled.{Filled}

@@ -7,13 +7,13 @@ use native.Mathlib.Omega.{arith}
 use borrow.Author.Tests.{lt-ltb, le-ltb}
 use lib.ListN.{length, take, drop, length-append}
 use lib.Seq.{sets, length-sets}
-use Rattle.grammar.specs.Choice.{by_test, cond-by}
+use Rattle.grammar.proofs.Choice.{by_test, cond-by}
 use Rattle.wire.specs.Limits.{max_store}
 use Rattle.grammar.specs.Grammar.{Span, new, most}
 use Rattle.grammar.specs.Document.{bytes_at}
 use Rattle.grammar.specs.Scan.{adds_ref, lengths, pairs, copied_pairs, joined}
-use Rattle.grammar.specs.Added.{AllIn}
-use Rattle.grammar.specs.Stores.{sets-append, pairs-length, pairs-append, copied-length, copied-append, lengths-append, joined-append, joined_length}
+use Rattle.grammar.proofs.Added.{AllIn}
+use Rattle.grammar.proofs.Stores.{sets-append, pairs-length, pairs-append, copied-length, copied-append, lengths-append, joined-append, joined_length}
 use Rattle.scanner.specs.declared.fill.Home.{Home}
 use Rattle.scanner.specs.declared.fill.Kept.{Kept}
 use Rattle.scanner.specs.Fill.{kept_pairs, kept_bytes, Room, Keeps}

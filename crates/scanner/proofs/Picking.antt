@@ -16,25 +16,26 @@ use Rattle.wire.specs.Limits.{max_store}
 use Rattle.event.specs.Span.{part, span, text, same}
 use Rattle.event.specs.Row.{has_name, row_at}
 use Rattle.grammar.specs.Grammar.{Span, Items, item, whole, lacks, stops, most, counted_name, after, event}
-use Rattle.grammar.specs.Added.{after-adds}
-use Rattle.grammar.specs.Attributes.{complete-ended}
+use Rattle.grammar.proofs.Added.{after-adds}
+use Rattle.grammar.proofs.Attributes.{complete-ended}
 use Rattle.grammar.specs.Scan.{sound, adds_item, adds, pairs, item_words, words, complete, incomplete, bad, outcome, Measure, measure}
 use Rattle.grammar.specs.Scan as Scan
-use Rattle.grammar.specs.Choice.{by_test, cond-by}
-use Rattle.grammar.specs.Said.{item-length}
-use Rattle.grammar.specs.Laws.{Agree, agree-event}
-use Rattle.grammar.specs.Stores.{sets-append, pairs-length}
-use Rattle.grammar.specs.Trusted.{always, trusted-event}
+use Rattle.grammar.proofs.Choice.{by_test, cond-by}
+use Rattle.grammar.proofs.Said.{item-length}
+use Rattle.grammar.proofs.Laws.{Agree, agree-event}
+use Rattle.grammar.proofs.Stores.{sets-append, pairs-length}
+use Rattle.grammar.specs.Trusted.{always}
+use Rattle.grammar.proofs.Trusted.{trusted-event}
 use Rattle.extent.specs.Measured.{measured}
 use Rattle.slice_spec.specs.Slice.{Place, sizes_bad, place_bad, items_at, table_after, place_after}
 use Rattle.slice_spec.specs.Queries.{Words, split, named, is_element, concat, all_named, first_named, picks, picked, Progress, past, kind_of, table_with, writes, done, refused}
-use Rattle.slice_spec.specs.Bounds.{Fits, fits}
-use Rattle.slice_spec.specs.Stored.{words-front}
-use Rattle.slice_spec.specs.Whole.{counted_name-most, counted_value-most}
+use Rattle.slice_spec.specs.Bounds.{Fits}
+use Rattle.slice_spec.proofs.Bounds.{fits}
+use Rattle.slice_spec.proofs.Stored.{words-front}
+use Rattle.slice_spec.proofs.Whole.{counted_name-most, counted_value-most}
 use Rattle.slice_spec.specs.Turns.{Turn, passed, halted, passing, turn_by, turn_or_refuse}
 use Rattle.scanner.specs.Fill.{ReadyAt}
 use Rattle.scanner.specs.declared.select.Query.{Query}
-use Rattle.scanner.specs.declared.select.Query.TheVariants as Query
 use Rattle.scanner.specs.declared.select.Seen.TheVariants as Seen
 use Rattle.scanner.specs.Select.{query_of, takes_one, most_of, rows_of, taken, chosen, grown, asked, Room, Chose, Whole, progress, seen, Sees, Tried, turned, unsure, in_doubt, uncounted_by, uncounted, turn-seen}
 

@@ -10,17 +10,17 @@ use lib.ListN.{length, get_or}
 use lib.Seq.{sets}
 use Rattle.wire.specs.Token as Token
 use Rattle.event.specs.declared.Shape.{Shape}
-use Rattle.grammar.specs.Reader.{Read, got, next}
+use Rattle.grammar.specs.Reader.{Read, got}
 use Rattle.grammar.specs.Document.{type_of}
 use Rattle.grammar.specs.Grammar.{Span, Ref, new, known, Value, Item, counted, counted_name, after, string, blob, name, value, attribute, first}
 use Rattle.grammar.specs.Scan.{adds_ref, adds_name, adds_value, adds_item, span_words, ref_words, name_words, value_words, item_words}
-use Rattle.grammar.specs.Laws.{RefFits, NameFits, ValueFits, ItemFits, good-name}
-use Rattle.grammar.specs.Added.{adds_ref-in, counted-adds, counted_name-adds, counted_value-adds}
-use Rattle.grammar.specs.Stores.{get_d_sets}
-use Rattle.grammar.specs.Binds.{Got}
-use Rattle.grammar.specs.Rows.{as_attribute, as_tag, as_text_row, name-within, attribute-is, attribute-name, attribute-value, first-bare, first-tag, first-other, first-text, first-textless, text-string, tag-name}
-use Rattle.grammar.specs.Again.{string-blob}
-use Rattle.grammar.specs.Choice.{by_test}
+use Rattle.grammar.proofs.Laws.{RefFits, NameFits, ValueFits, ItemFits, good-name}
+use Rattle.grammar.proofs.Added.{adds_ref-in, counted-adds, counted_name-adds, counted_value-adds}
+use Rattle.grammar.proofs.Stores.{get_d_sets}
+use Rattle.grammar.proofs.Binds.{Got}
+use Rattle.grammar.proofs.Rows.{as_attribute, as_tag, as_text_row, name-within, attribute-is, attribute-name, attribute-value, first-bare, first-tag, first-other, first-text, first-textless, text-string, tag-name}
+use Rattle.grammar.proofs.Again.{string-blob}
+use Rattle.grammar.proofs.Choice.{by_test}
 use Rattle.grammar.specs.Trusted.{always}
 use Rattle.scanner.specs.declared.fill.Home.{Home}
 use Rattle.scanner.specs.declared.fill.Kept.{Kept}

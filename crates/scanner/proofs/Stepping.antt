@@ -9,11 +9,12 @@ use lib.Dec.{ltb}
 use lib.ListN.{length}
 use Rattle.wire.specs.Limits.{max_store}
 use Rattle.wire.specs.Refusal.{rows_full, pool_full, names_full}
-use Rattle.grammar.specs.Choice.{by_test}
+use Rattle.grammar.proofs.Choice.{by_test}
 use Rattle.grammar.specs.Grammar.{Span, Items, item, whole, lacks, stops, event}
 use Rattle.grammar.specs.Scan.{sound, adds, lengths, count, words, complete, incomplete, bad, outcome, Measure, measure}
-use Rattle.grammar.specs.Attributes.{Ended, complete-ended, own-before, own_row}
-use Rattle.grammar.specs.Trusted.{always, trusted-event}
+use Rattle.grammar.proofs.Attributes.{Ended, complete-ended, own-before, own_row}
+use Rattle.grammar.specs.Trusted.{always}
+use Rattle.grammar.proofs.Trusted.{trusted-event}
 use Rattle.extent.specs.Measured.{measured}
 use Rattle.scanner.specs.declared.fill.Home.{Home}
 use Rattle.scanner.specs.declared.fill.Kept.{Kept}

@@ -8,21 +8,17 @@ use Rattle.wire.specs.Limits.{max_store, max_table}
 use Rattle.grammar.specs.Grammar.{Items, item, whole, lacks, stops}
 use Rattle.grammar.specs.Scan.{item_words, adds, pairs, Outcome, complete, incomplete, bad, outcome}
 use Rattle.grammar.specs.Scan as Scan
-use Rattle.grammar.specs.Choice.{by_test}
-use Rattle.grammar.specs.Attributes.{Ended}
+use Rattle.grammar.proofs.Choice.{by_test}
+use Rattle.grammar.proofs.Attributes.{Ended}
 use Rattle.slice_spec.specs.Queries as Defined
 use Rattle.slice_spec.specs.Queries.{Words, named, is_element, concat, Progress, done, refused, table_with}
 use Rattle.slice_spec.specs.Slice.{Place, sizes_bad, place_bad, items_at}
 use Rattle.slice_spec.specs.Turns.{Turn, passed, halted, passing, turn_by, turn, turn_or_refuse}
 use Rattle.scanner.specs.declared.select.Query.{Query}
-use Rattle.scanner.specs.declared.select.Query.TheVariants as Query
 use Rattle.scanner.specs.declared.select.Picked.{Picked}
-use Rattle.scanner.specs.declared.select.Picked.TheVariants as Picked
 use Rattle.scanner.specs.declared.select.Uncounted.{Uncounted}
-use Rattle.scanner.specs.declared.select.Uncounted.TheVariants as Uncounted
 use Rattle.scanner.specs.declared.select.Extent.{Extent}
 use Rattle.scanner.specs.declared.select.Seen.{Seen}
-use Rattle.scanner.specs.declared.select.Seen.TheVariants as Seen
 
 -- ---- the query
 

@@ -5,7 +5,6 @@ use Rattle.grammar.specs.Grammar.{Items, event}
 use Rattle.grammar.specs.Scan.{sound, outcome}
 use Rattle.quick_step.specs.Step.{Reply, gives, need_more, refused, Left, by_outcome}
 use Rattle.scanner.specs.declared.Stepped.{Stepped}
-use Rattle.scanner.specs.declared.Stepped.TheVariants as Stepped
 
 abbrev pub reply_of : Stepped → Reply
 reply_of (Stepped.Event spare bytes rows len added) = gives rows len added bytes

@@ -17,14 +17,14 @@ use event::Shape;
 use wire::{Command, Type};
 
 // Where new names go: they stay in the input, which stands in its store from base on, or their bytes are copied to the name store.
-#[derive(Drop)]
+#[derive(Clone, Copy)]
 pub struct Home {
     pub base: usize,
     pub copied: bool,
 }
 
 // The pool has so many names, and so many bytes of the name store are used.
-#[derive(Drop)]
+#[derive(Clone, Copy)]
 pub struct Kept {
     pub names: usize,
     pub used: usize,

@@ -1,6 +1,8 @@
 // The scanner of both readers: the step that reads an event in two passes, the first of which measures (crate extent) and the second, in
 // module fill, keeps names and writes rows, after the quick way of crate quick was tried. Module select takes the rows of an event that a
 // query asks for. A place is counted from the event's first byte, where the slice starts.
+#![tactic(auto)]
+
 mod fill;
 pub mod select;
 

@@ -14,7 +14,7 @@ use extent::Outcome;
 use wire::{Command, Refusal};
 
 // What is asked for: attributes of a name, of elements of a name; or such elements with all their attributes.
-#[derive(Drop)]
+#[derive(Clone, Copy)]
 pub enum Query {
     FindAttribute,
     AttributesOf,
@@ -267,7 +267,7 @@ fn take_event(
 // ---- an event that was read whole
 
 // What was measured of an event: its rows, its new names and its bytes.
-#[derive(Drop)]
+#[derive(Clone, Copy)]
 pub struct Extent {
     pub rows: usize,
     pub added: usize,

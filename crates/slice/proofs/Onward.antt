@@ -9,10 +9,10 @@ use lib.Dec.{ltb}
 use lib.ListN.{length, take, drop, length-drop}
 use lib.Seq.{take_all}
 use Rattle.grammar.specs.Grammar.{Items}
-use Rattle.grammar.specs.Laws.{agree-event}
-use Rattle.grammar.specs.Outcomes.{ends-within}
+use Rattle.grammar.proofs.Laws.{agree-event}
+use Rattle.grammar.proofs.Outcomes.{ends-within}
 use Rattle.grammar.specs.Scan.{sound, adds, count, Outcome, complete, incomplete, bad, outcome}
-use Rattle.grammar.specs.Choice.{by_test}
+use Rattle.grammar.proofs.Choice.{by_test}
 use Rattle.quick_step.specs.Step as Scanned
 use Rattle.quick_step.specs.Step.{step, too_long, outside, SteppedQuickly}
 use Rattle.quick.specs.declared.Taken.{Taken}

@@ -6,14 +6,10 @@ use Rattle.slice_spec.specs.Queries.{Ending, found, done, Step, on, stop, Progre
 use Rattle.slice_spec.specs.Queries as Asked
 use Rattle.slice.specs.declared.Place as Coded
 use Rattle.slice.specs.declared.Created.{Created}
-use Rattle.slice.specs.declared.Created.TheVariants as Created
 use Rattle.slice.specs.declared.Next.{Next}
-use Rattle.slice.specs.declared.Next.TheVariants as Next
 use Rattle.slice.specs.declared.queries.Reached.{Reached}
 use Rattle.slice.specs.declared.queries.Queried.{Queried}
-use Rattle.slice.specs.declared.queries.Queried.TheVariants as Queried
 use Rattle.slice.specs.declared.queries.Onward.{Onward}
-use Rattle.slice.specs.declared.queries.Onward.TheVariants as Onward
 
 abbrev pub place_of : Coded.Place → Place
 place_of p = record { at = p.at; names = p.names }

@@ -1,7 +1,6 @@
 -- A query on its way: where it stands after an event, and what is still to come.
 use Rattle.std.specs.Prelude.{Bool, true, false, List, ◌≡◌, ℕ, ◌+◌, ◌≤◌, ◌<◌, length}
 use Rattle.scanner.specs.declared.select.Picked.{Picked}
-use Rattle.scanner.specs.declared.select.Picked.TheVariants as Picked
 use Rattle.slice_spec.specs.Queries.{Query, Ending, done, Step, on, stop, Progress, Left, query_f}
 use Rattle.slice_spec.specs.Turns.{Turn, passed, halted, turn_or_refuse, after_by, by_turn}
 use Rattle.slice.specs.Answers.{step_of, reached_of, left_of}
@@ -9,7 +8,6 @@ use Rattle.slice.specs.declared.queries.Reached.{Reached}
 use Rattle.slice.specs.declared.queries.Queried.{Queried}
 use Rattle.slice.specs.declared.queries.Passed as Coded
 use Rattle.slice.specs.declared.queries.Asked.{Asked}
-use Rattle.slice.specs.declared.queries.Asked.TheVariants as Asked
 
 -- ---- one event
 

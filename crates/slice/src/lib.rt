@@ -1,5 +1,7 @@
 // The slice reader: it reads a document that lies in one slice, event by event. Its state is a place; the document, the pool
 // table and the rows are lent to each call.
+#![tactic(auto)]
+
 pub mod queries;
 
 ghost use Rattle.std.specs.Prelude.{◌≡◌};
@@ -12,7 +14,7 @@ use scanner::Stepped;
 use wire::Refusal;
 
 // Where the next event starts in the document, and how many pairs of the pool table are names.
-#[derive(Drop)]
+#[derive(Clone, Copy)]
 pub struct Place {
     pub at: usize,
     pub names: usize,

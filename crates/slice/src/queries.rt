@@ -3,7 +3,7 @@ use crate::Place;
 use wire::Refusal;
 
 // How far a query came: the place, the events that it consumed, and the rows that it wrote.
-#[derive(Drop)]
+#[derive(Clone, Copy)]
 pub struct Reached {
     pub place: Place,
     pub events: usize,

@@ -1,4 +1,6 @@
 // What every call of the slice reader checks first: the lengths of its buffers (17), and its place in them (19).
+#![tactic(auto)]
+
 ghost use Rattle.std.specs.Prelude.{◌≡◌};
 ghost use Rattle.slice_spec.specs.Slice.{sizes_bad, place_bad};
 

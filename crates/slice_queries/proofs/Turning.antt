@@ -9,14 +9,15 @@ use lib.Dec.{ltb, eqb}
 use lib.ListN.{length, drop, length-drop}
 use lib.Seq.{length-sets}
 use Rattle.grammar.specs.Grammar.{Span, Items}
-use Rattle.grammar.specs.Laws.{agree-event}
-use Rattle.grammar.specs.Outcomes.{ends-within}
+use Rattle.grammar.proofs.Laws.{agree-event}
+use Rattle.grammar.proofs.Outcomes.{ends-within}
 use Rattle.grammar.specs.Scan.{sound, pairs, Outcome, complete, incomplete, bad, outcome}
-use Rattle.grammar.specs.Choice.{by_test, neither}
+use Rattle.grammar.proofs.Choice.{by_test, neither}
 use Rattle.slice_spec.specs.Slice.{Place, sizes_bad, place_bad, items_at, table_after, place_after}
 use Rattle.slice_spec.specs.Queries.{Query, Words, Ending, done, Step, on, stop, Progress, Left, ends, concat, past, by_step, query_f, query}
-use Rattle.slice_spec.specs.Answers.{begun}
-use Rattle.slice_spec.specs.Turns.{Turn, passed, halted, passing, turn_by, turn, turn_or_refuse, after_by, by_turn, query-turn}
+use Rattle.slice_spec.proofs.Answers.{begun}
+use Rattle.slice_spec.specs.Turns.{Turn, passed, halted, passing, turn_by, turn, turn_or_refuse, after_by, by_turn}
+use Rattle.slice_spec.proofs.Turns.{query-turn}
 use Rattle.scanner.specs.Select.{turn_of}
 use Rattle.scanner.specs.declared.select.Picked.{Picked}
 use Rattle.slice.specs.Answers.{step_of, reached_of, left_of}

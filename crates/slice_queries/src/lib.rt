@@ -1,5 +1,7 @@
 // The four queries over plain parameters: event after event from a place on, until what is asked for was found or no more is to be
 // read. The rows that a query writes follow each other from the first word on.
+#![tactic(auto)]
+
 ghost use Rattle.std.specs.Prelude.{List, ◌≡◌, ℕ, ◌≤◌};
 ghost use Rattle.scanner.specs.Select.{query_of, turn_of};
 ghost use Rattle.slice_spec.specs.Queries.{Left, query, find-attribute, attributes-of, find-all-attributes, all-attributes-of};
@@ -80,8 +82,7 @@ fn ask(
         ) {
             Uncounted::Picked(picked) => {
                 let passed = pass(wanted, reached, picked);
-                let onward = passed.onward;
-                if is_over(onward) {
+                if is_over(&passed.onward) {
                     return Asked::Ended(told(passed));
                 }
                 reached = passed.reached;
@@ -122,8 +123,7 @@ fn ask_on(
             reached.rows,
         );
         let passed = pass(wanted, reached, picked);
-        let onward = passed.onward;
-        if is_over(onward) {
+        if is_over(&passed.onward) {
             return told(passed);
         }
         reached = passed.reached;

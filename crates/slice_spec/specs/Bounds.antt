@@ -1,25 +1,10 @@
 -- What holds of a place and of buffers that are not refused.
-use Rattle.std.specs.Prelude.{false, List, ◌≡◌, ℕ, ◌*◌, ◌%◌, ◌≤◌, ltb, eqb, length}
-use Rattle.std.proofs.Common.{ltb-false}
+use Rattle.std.specs.Prelude.{List, ℕ, ◌*◌, ◌≤◌, length}
 use Rattle.wire.specs.Limits.{max_store, max_table}
-use Rattle.grammar.specs.Choice.{neither}
-use Rattle.slice_spec.specs.Slice.{Place, sizes_bad, place_bad}
+use Rattle.slice_spec.specs.Slice.{Place}
 
 pub record Fits (p : Place) (document table : List ℕ) : Type 0 where
   pub at-fits : p.at ≤ length document
   pub names-fit : 2 * p.names ≤ length table
   pub document-small : length document ≤ max_store
   pub table-small : length table ≤ max_table
-
-pub fits : (p : Place) (document table : List ℕ) → sizes_bad document table ≡ false → place_bad p document table ≡ false → Fits p document table
-unfolding sizes_bad place_bad
-fits p document table a b =
-    let s₁ = neither (ltb max_store (length document)) _ a in
-    let s₂ = neither (eqb (length table % 2) 1) _ s₁.1 in
-    let t₁ = neither (ltb (length document) p.at) _ b in
-    record {
-      at-fits = ltb-false _ _ t₁.0;
-      names-fit = ltb-false _ _ t₁.1;
-      document-small = ltb-false _ _ s₁.0;
-      table-small = ltb-false _ _ s₂.1;
-    }

@@ -1,17 +1,6 @@
 pub mod Slice
 pub mod Bounds
 pub mod Queries
-pub mod Held
-pub mod Standing
-pub mod Kept
-pub mod Agreement
-pub mod Whole
-pub mod Asked
-pub mod Answers
-pub mod Consumed
-pub mod Calls
-pub mod Stored
 pub mod Runs
 pub mod Turns
 pub mod Parser
-pub mod Carried

@@ -23,7 +23,7 @@ fresh = record { at = 4; names = 0 }
 
 -- the answers of nexts, each with the rows that it is lent
 unfoldable pub answers : Place → List ℕ → List ℕ → List (List ℕ) → List Answer
-answers at document table [] = []
+answers at _ table [] = []
 answers at document table (rows ∷ rest) =
     let x : S.Left = S.next at document table rows in
     x.answer ∷ answers x.place document x.table rest

@@ -1,4 +1,6 @@
 // The slice reader's answers as words.
+#![tactic(auto)]
+
 pub mod queries;
 
 ghost use Rattle.std.specs.Prelude.{List, ◌≡◌, ℕ};

@@ -1,4 +1,6 @@
 // Slots: names, and numbers, by a number among few.
+#![tactic(auto)]
+
 ghost use Rattle.std.specs.Prelude.{◌≡◌};
 ghost use Rattle.slots.specs.Slots.{slot_by, slot_of};
 

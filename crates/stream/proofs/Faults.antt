@@ -10,7 +10,7 @@ use lib.Dec.{ltb, eqb}
 use lib.ListN.{length}
 use Rattle.wire.specs.Refusal.{bad_size, bad_state}
 use Rattle.wire.specs.Limits.{min_window, max_table}
-use Rattle.grammar.specs.Choice.{neither}
+use Rattle.grammar.proofs.Choice.{neither}
 use Rattle.stream_spec.specs.Stream.{Stream, Lent, Left, Reply, unchanged, sizes_bad, state_bad, checked}
 use Rattle.stream.specs.Answers.{fault, Fits, checked_of}
 use Rattle.stream.specs.declared.Checked.{Checked}

@@ -10,7 +10,7 @@ use lib.Seq.{slice, sets, sets-eq, paste, take_all, take_at, drop_at, drop-drop,
 use lib.Dec.{ltb}
 use borrow.Author.Tests.{ltb-true, ltb-false}
 use Rattle.byte_copy.specs.Sets.{sets-take}
-use Rattle.grammar.specs.Choice.{by_test}
+use Rattle.grammar.proofs.Choice.{by_test}
 
 -- a part of a slice, as the code lends it
 pub part_slice : (w : List ℕ) (start end : ℕ) → start ≤ end → end ≤ length w → take (end - start) (drop start w) ≡ slice start end w

@@ -7,15 +7,10 @@ use Rattle.stream_spec.specs.Stream.{Stream, Lent, Left, Reply, took, done, give
 use Rattle.stream_spec.specs.Stream as Defined
 use Rattle.stream.specs.declared.Stream as Coded
 use Rattle.stream.specs.declared.Checked.{Checked}
-use Rattle.stream.specs.declared.Checked.TheVariants as Checked
 use Rattle.stream.specs.declared.Created.{Created}
-use Rattle.stream.specs.declared.Created.TheVariants as Created
 use Rattle.stream.specs.declared.Fed.{Fed}
-use Rattle.stream.specs.declared.Fed.TheVariants as Fed
 use Rattle.stream.specs.declared.Closed.{Closed}
-use Rattle.stream.specs.declared.Closed.TheVariants as Closed
 use Rattle.stream.specs.declared.Answer.{Answer}
-use Rattle.stream.specs.declared.Answer.TheVariants as Answer
 
 abbrev pub stream_of : Coded.Stream → Stream
 stream_of s =

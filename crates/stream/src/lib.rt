@@ -1,5 +1,7 @@
 // The chunk reader over buffers that every call lends: a window where bytes wait, a pool table, and a store for the names. Its `next` is
 // the crate stream_next.
+#![tactic(auto)]
+
 ghost use Rattle.std.specs.Prelude.{◌++◌, ◌≡◌, ◌+◌, ◌-◌, ◌≤◌, min, length, take, drop};
 ghost use Rattle.std.proofs.Math.Seq.{slice};
 ghost use Rattle.stream_spec.specs.Stream.{sizes_bad, state_bad, create, feed, finish};
@@ -8,7 +10,7 @@ ghost use Rattle.stream.specs.Answers.{stream_of, lend, fault, open_fault, check
 use wire::{Refusal, limits};
 
 // The bytes of the window from start to end wait. The pool table has so many names, the store so many bytes of them.
-#[derive(Drop)]
+#[derive(Clone, Copy)]
 pub struct Stream {
     pub start: usize,
     pub end: usize,

@@ -11,9 +11,9 @@ use lib.ListN.{length, take, drop}
 use lib.Seq.{slice, length-slice}
 use Rattle.wire.specs.Header.{Check, u32_at, magic, header}
 use Rattle.wire.specs.Refusal.{header_short, invalid_magic}
-use Rattle.grammar.specs.Choice.{by_test}
+use Rattle.grammar.proofs.Choice.{by_test}
 use Rattle.stream_spec.specs.Stream.{Stream, Lent, Left, Reply, need_more, unchanged, next_from, next_header, next}
-use Rattle.stream_spec.specs.Invariant.{u32_at-slice}
+use Rattle.stream_spec.proofs.Invariant.{u32_at-slice}
 use Rattle.stream.specs.Answers.{fault, Fits}
 use Rattle.stream.proofs.Faults.{goes_on}
 use Rattle.stream.proofs.Window.{part_slice}

@@ -12,12 +12,11 @@ use Rattle.wire.specs.Refusal.{window_full}
 use Rattle.wire.specs.Limits.{max_store}
 use Rattle.wire.specs.declared.Refusal.{Refusal}
 use Rattle.grammar.specs.Grammar.{Items, event}
-use Rattle.grammar.specs.Laws.{agree-event}
-use Rattle.grammar.specs.Outcomes.{ends-within}
+use Rattle.grammar.proofs.Laws.{agree-event}
+use Rattle.grammar.proofs.Outcomes.{ends-within}
 use Rattle.grammar.specs.Scan.{sound, adds, lengths, count, Outcome, complete, incomplete, bad, outcome}
-use Rattle.grammar.specs.Choice.{by_test}
+use Rattle.grammar.proofs.Choice.{by_test}
 use Rattle.scanner.specs.declared.Stepped.{Stepped}
-use Rattle.scanner.specs.declared.Stepped.TheVariants as Stepped
 use Rattle.quick_step.specs.Step as Scanned
 use Rattle.quick_step.specs.Step.{step}
 use Rattle.scanner.specs.Step.{step_of}

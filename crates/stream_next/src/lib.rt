@@ -1,4 +1,6 @@
 // The chunk reader's `next`: the event that stands in the window, if all of it waits.
+#![tactic(auto)]
+
 ghost use Rattle.std.specs.Prelude.{◌&&◌, ◌≡◌, ◌≤◌, eqb};
 ghost use Rattle.stream_spec.specs.Stream.{passed, next_from, next_header, next};
 ghost use Rattle.stream.specs.Answers.{stream_of, lend, Fits, Sums, later, answer_of};

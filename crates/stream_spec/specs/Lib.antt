@@ -1,10 +1,3 @@
 pub mod Stream
 pub mod Calls
-pub mod Branches
-pub mod Held
-pub mod Invariant
-pub mod Lively
-pub mod Prompt
-pub mod Refusals
-pub mod Incomplete
 pub mod Runs

@@ -1,5 +1,7 @@
 // The chunk reader's answers and states as words. A state is six words: start, end, names, bytes, and 0 or 1 for a header passed and for a
 // finish.
+#![tactic(auto)]
+
 ghost use Rattle.std.specs.Prelude.{List, ◌≡◌, ℕ};
 ghost use Rattle.stream.specs.declared.Stream as State;
 ghost use Rattle.stream.specs.Answers.{created_of, fed_of, closed_of, answer_of, stream_of};

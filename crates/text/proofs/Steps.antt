@@ -7,7 +7,7 @@ use native.Mathlib.Numerals.{add-one}
 use native.Mathlib.Omega.{arith}
 use lib.ListN.{length, get_or, set, take, drop, length-append, length-set, length-drop, take-append-drop}
 use lib.Seq.{sets, take_all, take-suc, drop-cons, length-sets, length-take-le}
-use Rattle.grammar.specs.Stores.{sets-append}
+use Rattle.grammar.proofs.Stores.{sets-append}
 use Rattle.byte_copy.specs.Sets.{sets-past}
 use Rattle.text.specs.Numerals.{digit, hex, numeral, letter, pad, base64}
 use Rattle.text.specs.Put.{after, Put}

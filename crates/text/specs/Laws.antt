@@ -2,7 +2,7 @@
 use Rattle.std.specs.Prelude.{List, [], ◌∷◌, ◌++◌, ◌≡◌, refl, ℕ, zero, suc, ◌+◌, ◌*◌, ◌/◌, ◌%◌, ◌^◌, ◌≤◌, ◌<◌, ltb, length, drop}
 use Rattle.std.proofs.Common.{append_assoc, sym, ap, ◌∙◌, not-suc-le-zero, mul-le-mul_right, arith, lt-ltb, le-ltb, ltb-false}
 use Rattle.std.proofs.Math.Nat.{div-lt_self, mul-div-le}
-use Rattle.grammar.specs.Choice.{by_test}
+use Rattle.grammar.proofs.Choice.{by_test}
 use Rattle.text.specs.Numerals.{digit, hex, numeral_in, numeral, base64}
 use Rattle.text.specs.Put.{Put}
 use Rattle.text.specs.PutLaws.{put_both}

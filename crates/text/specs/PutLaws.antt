@@ -3,8 +3,8 @@ use Rattle.std.specs.Prelude.{List, [], ◌++◌, ◌≡◌, refl, ℕ, ◌+◌,
 use Rattle.std.proofs.Common.{sym, ap, ◌∙◌, arith, length-append, leb-true, leb-false}
 use Rattle.std.proofs.lemmas.List.Edits.{sets}
 use Rattle.std.proofs.Math.Seq.{length-sets}
-use Rattle.grammar.specs.Choice.{by_test}
-use Rattle.grammar.specs.Stores.{sets-append}
+use Rattle.grammar.proofs.Choice.{by_test}
+use Rattle.grammar.proofs.Stores.{sets-append}
 use Rattle.byte_copy.specs.Sets.{sets-past}
 use Rattle.text.specs.Put.{after, Put}
 

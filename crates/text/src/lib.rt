@@ -1,5 +1,7 @@
 // Numbers and bytes as text, in ASCII, put into an output from a place on as far as there is room. What is put is followed by
 // the place after it, so that text after text needs no look at the room.
+#![tactic(auto)]
+
 ghost use Rattle.std.specs.Prelude.{[], ◌∷◌, ◌≡◌, ◌+◌, ◌*◌, ◌≤◌, ◌<◌, min, length, drop};
 ghost use Rattle.std.proofs.lemmas.List.Edits.{sets};
 ghost use Rattle.text.specs.Numerals.{digit, hex, numeral, letter, base64};

@@ -1,6 +1,3 @@
 pub mod Trace
 pub mod Written
 pub mod RoundTrip
-pub mod Demand3
-pub mod Example
-pub mod Instance

@@ -11,7 +11,7 @@ use native.Mathlib.Omega.{arith}
 use borrow.Author.Tests.{leb-true, ltb-true, ltb-false, eqb-true, le-leb, lt-ltb, le-ltb, ne_eqb}
 use Rattle.std.proofs.Math.ListN.{length, drop, length-append}
 use Rattle.std.proofs.Math.Seq.{drop-append_seam, take-append_seam}
-use Rattle.grammar.specs.Reader.{got, ◌>>=◌, next}
+use Rattle.grammar.specs.Reader.{got}
 use Rattle.utf8.specs.Utf8.{well_formed}
 use Rattle.event.specs.Row.{Row, Event, has_name, shape, shapes}
 use Rattle.event.specs.declared.Shape.{Shape}
@@ -25,12 +25,11 @@ use Rattle.writer_spec.specs.Faults.{longest}
 use Rattle.event.specs.Span.{same}
 use Rattle.event.specs.Laws.{same-eq}
 use Rattle.writer_spec.specs.Formed.{Str, FormedValue, FormedAttribute, FormedAttributes, FormedFirst, FormedEvent, FormedEvents}
-use Rattle.grammar.specs.Steps.{Ends, keep_item-length}
+use Rattle.grammar.proofs.Steps.{Ends, keep_item-length}
 use Rattle.event.specs.Row as Row
-use Rattle.event.specs.declared.Shape.TheVariants as Shape
 use Rattle.grammar.specs.Document as D
-use Rattle.grammar.specs.Kinds.{bare-unnamed, tag-named, text-unnamed, command-token, type-token}
-use Rattle.grammar.specs.Choice.{by_test, cond-by}
+use Rattle.grammar.proofs.KindLaws.{bare-unnamed, tag-named, text-unnamed, command-token, type-token}
+use Rattle.grammar.proofs.Choice.{by_test, cond-by}
 
 -- ---- bytes at a place
 

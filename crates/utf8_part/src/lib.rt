@@ -1,4 +1,6 @@
 // Well-formed UTF-8 in a part of a text.
+#![tactic(auto)]
+
 ghost use Rattle.std.specs.Prelude.{◌≡◌, true, ◌+◌, ◌≤◌, length, take, drop};
 ghost use Rattle.utf8.specs.Utf8.{well_formed};
 ghost use Rattle.utf8_part.specs.Reading.{Low};

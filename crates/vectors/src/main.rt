@@ -1,66 +1,93 @@
 // Replays the Rust's stored answers. Standard input has a document a line, in hex, `=` for the empty one. Its listing is printed
 // twice: from the slice reader, and from a chunk reader, which is fed the document in small chunks.
+#![tactic(auto)]
+
 ghost use Rattle.std.specs.Prelude.{◌+◌, ◌≤◌, ◌<◌, length};
 
-use libc::{STDIN_FILENO, STDOUT_FILENO};
 use listing::Lined;
 use slice::{Created, Next, Place};
+use std::io::{Print, Read, Stdin, Stdout};
 use stream::{Answer, Closed, Fed, Stream};
 use wire::Refusal;
 
-fn put(s: &[u8], len: usize)
+// ---- input and output
+
+// A write that fails is passed over: the lines that come are compared with those wanted.
+fn put(stdout: Stdout, s: &[u8], len: usize)
     requires { len ≤ length s.now }
 {
-    io::write_all(STDOUT_FILENO, &s[..len]);
+    let _ = stdout.write_all(&s[..len]);
+}
+
+// Reads until the buffer is full, the input ends or a read fails; how many bytes came.
+fn read_full(stdin: Stdin, buf: &mut [u8]) -> usize
+    ensures { result ≤ length buf.old }
+{
+    let mut input = stdin;
+    let mut done = 0;
+    while done < buf.len() {
+        match input.read(&mut buf[done..]) {
+            Ok(n) => {
+                if n == 0 {
+                    return done;
+                }
+                done += n;
+            }
+            Err(_) => {
+                return done;
+            }
+        }
+    }
+    done
 }
 
 // ---- lines
 
 // A line of the listing; `?` where it had no room.
-fn show(lined: Lined, line: &[u8]) {
+fn show(stdout: Stdout, lined: Lined, line: &[u8]) {
     match lined {
         Lined::Line(len) => {
             if len <= line.len() {
-                put(line, len);
+                put(stdout, line, len);
             }
         }
         Lined::Refused(_) => {
-            put(b"?\n", 2);
+            put(stdout, b"?\n", 2);
         }
     }
 }
 
 // A stored document has under 3,000 bytes, so that a row's line has room.
-fn show_row<'a>(first: &'a [u8], second: &'a [u8], rows: &[u32], row: usize) {
+fn show_row<'a>(stdout: Stdout, first: &'a [u8], second: &'a [u8], rows: &[u32], row: usize) {
     let mut line = [0u8; 8_192];
     let lined = listing::line(first, second, rows, row, &mut line);
-    show(lined, &line);
+    show(stdout, lined, &line);
 }
 
-fn show_rows<'a>(first: &'a [u8], second: &'a [u8], rows: &[u32], count: usize) {
+fn show_rows<'a>(stdout: Stdout, first: &'a [u8], second: &'a [u8], rows: &[u32], count: usize) {
     let mut i = 0;
     while i < count {
-        show_row(first, second, rows, i);
+        show_row(stdout, first, second, rows, i);
         i += 1;
     }
 }
 
-fn show_end(events: usize) {
+fn show_end(stdout: Stdout, events: usize) {
     let mut line = [0u8; 64];
     let lined = listing::end_line(events, &mut line);
-    show(lined, &line);
+    show(stdout, lined, &line);
 }
 
-fn show_refused(refusal: Refusal) {
+fn show_refused(stdout: Stdout, refusal: Refusal) {
     let mut line = [0u8; 64];
     let lined = listing::refused_line(refusal, &mut line);
-    show(lined, &line);
+    show(stdout, lined, &line);
 }
 
 // ---- a document, by the slice reader
 
 // An event takes a byte at least, so the turns are enough.
-fn show_events(document: &[u8], first: Place, pool: &mut [u32], rows: &mut [u32]) {
+fn show_events(stdout: Stdout, document: &[u8], first: Place, pool: &mut [u32], rows: &mut [u32]) {
     let mut place = first;
     let mut events = 0;
     while events <= document.len() {
@@ -70,15 +97,15 @@ fn show_events(document: &[u8], first: Place, pool: &mut [u32], rows: &mut [u32]
                 rows: count,
                 place: after,
             } => {
-                show_rows(document, document, rows, count);
+                show_rows(stdout, document, document, rows, count);
                 place = after;
             }
             Next::End => {
-                show_end(events);
+                show_end(stdout, events);
                 return;
             }
             Next::Refused(refusal) => {
-                show_refused(refusal);
+                show_refused(stdout, refusal);
                 return;
             }
         }
@@ -86,16 +113,16 @@ fn show_events(document: &[u8], first: Place, pool: &mut [u32], rows: &mut [u32]
     }
 }
 
-fn show_at_once(document: &[u8]) {
+fn show_at_once(stdout: Stdout, document: &[u8]) {
     let mut pool = [0u32; 256];
     let mut rows = [0u32; 512];
     let created = slice::create(document, &pool);
     match created {
         Created::Place(place) => {
-            show_events(document, place, &mut pool, &mut rows);
+            show_events(stdout, document, place, &mut pool, &mut rows);
         }
         Created::Refused(refusal) => {
-            show_refused(refusal);
+            show_refused(stdout, refusal);
         }
     }
 }
@@ -177,6 +204,7 @@ pub struct Progress {
 }
 
 fn take_turn(
+    stdout: Stdout,
     document: &[u8],
     sofar: Progress,
     turn: usize,
@@ -197,7 +225,7 @@ fn take_turn(
             rows: count,
             stream,
         } => {
-            show_rows(window, store, rows, count);
+            show_rows(stdout, window, store, rows, count);
             Progress {
                 stream,
                 at: sofar.at,
@@ -216,7 +244,7 @@ fn take_turn(
             }
         }
         Answer::End(stream) => {
-            show_end(sofar.events);
+            show_end(stdout, sofar.events);
             Progress {
                 stream,
                 at: sofar.at,
@@ -225,7 +253,7 @@ fn take_turn(
             }
         }
         Answer::Refused(refusal) => {
-            show_refused(refusal);
+            show_refused(stdout, refusal);
             Progress {
                 stream: before,
                 at: sofar.at,
@@ -240,6 +268,7 @@ fn take_turn(
 const TURNS: usize = 6_010;
 
 fn show_chunks(
+    stdout: Stdout,
     document: &[u8],
     first: Stream,
     window: &mut [u8],
@@ -258,12 +287,12 @@ fn show_chunks(
         if !progress.more {
             return;
         }
-        progress = take_turn(document, progress, turn, window, pool, store, rows);
+        progress = take_turn(stdout, document, progress, turn, window, pool, store, rows);
         turn += 1;
     }
 }
 
-fn show_in_chunks(document: &[u8]) {
+fn show_in_chunks(stdout: Stdout, document: &[u8]) {
     let mut window = [0u8; 128];
     let mut pool = [0u32; 256];
     let mut store = [0u8; 256];
@@ -272,6 +301,7 @@ fn show_in_chunks(document: &[u8]) {
     match created {
         stream::Created::Stream(stream) => {
             show_chunks(
+                stdout,
                 document,
                 stream,
                 &mut window,
@@ -281,14 +311,14 @@ fn show_in_chunks(document: &[u8]) {
             );
         }
         stream::Created::Refused(refusal) => {
-            show_refused(refusal);
+            show_refused(stdout, refusal);
         }
     }
 }
 
-fn show_document(document: &[u8]) {
-    show_at_once(document);
-    show_in_chunks(document);
+fn show_document(stdout: Stdout, document: &[u8]) {
+    show_at_once(stdout, document);
+    show_in_chunks(stdout, document);
 }
 
 // ---- the documents
@@ -339,19 +369,19 @@ fn line_at(s: &[u8], from: usize, document: &mut [u8]) -> Line
     Line { len, next: s.len() }
 }
 
-fn show_documents(s: &[u8], document: &mut [u8]) {
+fn show_documents(stdout: Stdout, s: &[u8], document: &mut [u8]) {
     let mut at = 0;
     while at < s.len() {
         let line = line_at(s, at, document);
         let len = line.len;
-        show_document(&document[..len]);
+        show_document(stdout, &document[..len]);
         at = line.next;
     }
 }
 
-fn main() {
-    let mut buffer = io::large_buffer();
-    let n = io::read_full(STDIN_FILENO, &mut buffer);
-    let mut document = io::buffer();
-    show_documents(&buffer[..n], &mut document);
+fn main(rt: HostRuntime) {
+    let mut buffer = [0u8; 65536];
+    let n = read_full(rt.stdin(), &mut buffer);
+    let mut document = [0u8; 4096];
+    show_documents(rt.stdout(), &buffer[..n], &mut document);
 }

@@ -1,4 +1,6 @@
 // The wire format's numbers: a token's command and type, and the refusals, each named once.
+#![tactic(auto)]
+
 pub mod limits;
 pub mod tokens;
 

@@ -3,7 +3,7 @@ use mathlib.Core.Bool.{true, false}
 use mathlib.Core.Option.{Option, none, some}
 use mathlib.Core.List.{List, [], ◌∷◌, ◌++◌}
 use mathlib.Core.Path.{◌≡◌, refl, sym, ap, ◌∙◌}
-use Prim.Native.Nat.{ℕ, ◌+◌, ◌-◌}
+use Prim.Native.Nat.{ℕ, ◌+◌}
 use native.Mathlib.Nat.{add-zero}
 use native.Mathlib.Numerals.{add-one}
 use native.Mathlib.Omega.{arith}
@@ -13,7 +13,7 @@ use Rattle.wire.specs.Header.{be16}
 use Rattle.wire.specs.Token.{interned_new}
 use Rattle.event.specs.Span.{span}
 use Rattle.event.specs.Row.{Row, has_name, row_at}
-use Rattle.grammar.specs.Stores.{sets-append}
+use Rattle.grammar.proofs.Stores.{sets-append}
 use Rattle.writer_spec.specs.Encode.{sized, name_by, value_bytes, token_type}
 use Rattle.writer.specs.Passes.{named_by, row_by, token_in}
 use Rattle.writer.proofs.Values.{sized-length}

@@ -13,18 +13,16 @@ use Rattle.wire.specs.Limits.{max_store, max_table}
 use Rattle.event.specs.Row.{Row}
 use Rattle.event.specs.Words.{list_forms, event_forms}
 use Rattle.writer_spec.specs.Writer.{Writer, Lent, refused, Left, Refusal, ◌before◌, refuse_if, sizes_bad, state_bad, pool_at, meets_bad, rows_refusal, unless, refusal, append, write, rows_in}
-use Rattle.grammar.specs.Choice.{neither}
-use Rattle.writer_spec.specs.Laws.{both-forms, pool-count}
-use Rattle.writer_spec.specs.Unrefused.{fits}
+use Rattle.grammar.proofs.Choice.{neither}
+use Rattle.writer_spec.proofs.Laws.{both-forms, pool-count}
+use Rattle.writer_spec.proofs.Unrefused.{fits}
 use Rattle.writer.specs.Answers.{lent_of, forms_by}
 use Rattle.slots.specs.Slots.{Fresh}
 use Rattle.writer.specs.Passes.{most-notes, call_fault, Slots, MeasureSays, TriedBy, Ready}
 use Rattle.wire.specs.declared.Refusal as Wire
 use Rattle.writer.specs.declared.Writer as Code
 use Rattle.writer.specs.declared.measure.Measured.{Measured}
-use Rattle.writer.specs.declared.measure.Measured.TheVariants as Measured
 use Rattle.writer.specs.declared.tries.Outcome.{Outcome}
-use Rattle.writer.specs.declared.tries.Outcome.TheVariants as Outcome
 
 -- ---- what passed checks say
 

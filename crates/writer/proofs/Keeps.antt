@@ -12,7 +12,7 @@ use Rattle.wire.specs.Token.{interned_new}
 use Rattle.event.specs.Span.{span}
 use Rattle.event.specs.Row.{Row, has_name, row_at}
 use Rattle.grammar.specs.Grammar.{most}
-use Rattle.grammar.specs.Choice.{cond-by}
+use Rattle.grammar.proofs.Choice.{cond-by}
 use Rattle.writer.specs.Passes.{joins_by, pairs_by}
 
 module _ (first second w : List ℕ) (names : ℕ) where

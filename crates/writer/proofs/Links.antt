@@ -11,7 +11,7 @@ use lib.ListN.{length, get_or, set, length-append, length-set, get_or-append}
 use lib.Seq.{get_or-append-add, get_or-set_same, get_or-set_other}
 use Rattle.event.specs.Span.{span, same}
 use Rattle.event.specs.Laws.{same_refl}
-use Rattle.grammar.specs.Choice.{by_test}
+use Rattle.grammar.proofs.Choice.{by_test}
 use Rattle.slots.specs.Slots.{slot_of}
 use Rattle.writer.specs.Notes.{note_name, note_link, count, Chain, Linked, LookSays, Recalled}
 use Rattle.writer.specs.declared.notes.Look.TheVariants as Look

@@ -13,10 +13,9 @@ use Rattle.wire.specs.Token.{interned_new}
 use Rattle.event.specs.Span.{span}
 use Rattle.event.specs.Row.{Row, shape, has_name, value_at, row_at}
 use Rattle.event.specs.declared.Shape.{Shape}
-use Rattle.event.specs.declared.Shape.TheVariants as Shape
 use Rattle.grammar.specs.Grammar.{most}
 use Rattle.grammar.specs.Document.{Pool}
-use Rattle.grammar.specs.Choice.{cond-by}
+use Rattle.grammar.proofs.Choice.{cond-by}
 use Rattle.writer_spec.specs.Encode.{find, name_by, name_bytes, value_bytes, row_bytes, keep_row}
 use Rattle.writer_spec.specs.Faults.{string_fault, value_fault}
 use Rattle.writer_spec.specs.Writer.{Refusal, ◌before◌, refuse_if, row_refusal}
@@ -27,14 +26,10 @@ use Rattle.writer.specs.Notes.{note_name, note_index, count, Unnoted, LookSays}
 use Rattle.writer.specs.declared.notes.Look.TheVariants as Look
 use Rattle.wire.specs.declared.Refusal as Wire
 use Rattle.writer.specs.declared.sizes.Size.{Size}
-use Rattle.writer.specs.declared.sizes.Size.TheVariants as Size
 use Rattle.writer.specs.declared.measure.Tally.{Tally}
 use Rattle.writer.specs.declared.measure.RowSize.{RowSize}
-use Rattle.writer.specs.declared.measure.RowSize.TheVariants as RowSize
 use Rattle.writer.specs.declared.measure.NameFound.{NameFound}
-use Rattle.writer.specs.declared.measure.NameFound.TheVariants as NameFound
 use Rattle.writer.specs.declared.measure.NameSize.{NameSize}
-use Rattle.writer.specs.declared.measure.NameSize.TheVariants as NameSize
 use Rattle.writer.specs.Passes.{name_refusal, capped, most-notes, bad, found, Known, Kept, NameTakes, NameSays, NameMeasured, RowNamed, RowNameSays, RowNameMeasured, RowTakes, RowMeasured}
 use Rattle.writer.proofs.Pools.{keep-there, keep-new, keep-full, find-below}
 use Rattle.writer.proofs.Links.{count-more, name_new}

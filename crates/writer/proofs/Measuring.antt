@@ -13,19 +13,17 @@ use Rattle.event.specs.Row.{Row, has_name, row_at}
 use Rattle.grammar.specs.Grammar.{most}
 use Rattle.grammar.specs.Document.{Pool}
 use Rattle.writer_spec.specs.Encode.{row_bytes, keep_row, keep_rows}
-use Rattle.writer_spec.specs.Laws.{pool-count}
+use Rattle.writer_spec.proofs.Laws.{pool-count}
 use Rattle.writer_spec.specs.Writer.{Lent, row_refusal, room_refusal, ends, rows_refusal, rows_in}
-use Rattle.writer_spec.specs.Wrote.{keep_rows-append}
-use Rattle.writer_spec.specs.Held.{rows-bounded}
+use Rattle.writer_spec.proofs.Wrote.{keep_rows-append}
+use Rattle.writer_spec.proofs.Held.{rows-bounded}
 use Rattle.writer.specs.Answers.{lent_of, fault_of}
 use Rattle.slots.specs.Slots.{Fresh}
 use Rattle.writer.specs.Notes.{Unnoted}
 use Rattle.writer.specs.Passes.{room_of, ends_at, most-notes, Settled, AllSettled, bad, found, Known, Kept, RowTakes, RowSays, RowMeasured, MeasureSays}
 use Rattle.wire.specs.declared.Refusal as Wire
 use Rattle.writer.specs.declared.sizes.Fault.{Fault}
-use Rattle.writer.specs.declared.sizes.Fault.TheVariants as Fault
 use Rattle.writer.specs.declared.measure.RowSize.{RowSize}
-use Rattle.writer.specs.declared.measure.RowSize.TheVariants as RowSize
 use Rattle.writer.specs.declared.measure.Measured.TheVariants as Measured
 use Rattle.writer.specs.declared.measure.Tally.{Tally}
 use Rattle.writer.proofs.Pools.{row-full}

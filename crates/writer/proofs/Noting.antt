@@ -11,7 +11,7 @@ use lib.ListN.{length, get_or, set}
 use Rattle.event.specs.Span.{span}
 use Rattle.event.specs.Row.{Row, has_name, row_at}
 use Rattle.grammar.specs.Document.{Pool}
-use Rattle.grammar.specs.Choice.{by_test}
+use Rattle.grammar.proofs.Choice.{by_test}
 use Rattle.writer_spec.specs.Encode.{find}
 use Rattle.writer_spec.specs.Faults.{string_fault}
 use Rattle.slots.specs.Slots.{slot_of, Fresh}

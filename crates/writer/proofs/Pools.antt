@@ -14,7 +14,7 @@ use Rattle.event.specs.Row.{Row, has_name}
 use Rattle.names.specs.Laws.{same_not}
 use Rattle.grammar.specs.Grammar.{most}
 use Rattle.grammar.specs.Document.{Pool}
-use Rattle.grammar.specs.Choice.{by_test}
+use Rattle.grammar.proofs.Choice.{by_test}
 use Rattle.writer_spec.specs.Encode.{find, keep_by, keep, keep_row, keep_rows}
 
 -- ---- options

@@ -14,7 +14,7 @@ use Rattle.event.specs.Row.{Row, row_at, rows_at}
 use Rattle.event.specs.Words.{row_forms_in, opens, rows_form}
 use Rattle.event.specs.Laws.{both}
 use Rattle.grammar.specs.Document.{Pool}
-use Rattle.grammar.specs.Choice.{by_test}
+use Rattle.grammar.proofs.Choice.{by_test}
 use Rattle.writer_spec.specs.Encode.{row_bytes, keep_row}
 use Rattle.writer_spec.specs.Writer.{Lent, row_refusal, room_refusal, ends, rows_refusal}
 use Rattle.writer.specs.Passes.{room_of, capped, ends_at}

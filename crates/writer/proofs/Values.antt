@@ -14,7 +14,6 @@ use Rattle.event.specs.Span.{part, span}
 use Rattle.event.specs.Row as Row
 use Rattle.event.specs.Row.{Row, shape, value_at, row_at}
 use Rattle.event.specs.declared.Shape.{Shape}
-use Rattle.event.specs.declared.Shape.TheVariants as Shape
 use Rattle.writer_spec.specs.Encode.{sized, value_bytes}
 use Rattle.writer_spec.specs.Faults.{longest, blob_fault, string_fault, value_fault}
 use Rattle.writer.specs.Answers.{Measure, takes, stops, measured}

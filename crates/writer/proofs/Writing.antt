@@ -16,15 +16,14 @@ use Rattle.event.specs.Row.{Row, shape, shapes, has_name, row_at}
 use Rattle.event.specs.Words.{value_forms, attribute_forms, row_forms, row_forms_in, zeros, opens, rows_form}
 use Rattle.event.specs.Laws.{both}
 use Rattle.event.specs.declared.Shape.{Shape}
-use Rattle.event.specs.declared.Shape.TheVariants as Shape
 use Rattle.grammar.specs.Grammar.{most}
 use Rattle.grammar.specs.Document.{Pool}
-use Rattle.grammar.specs.Stores.{sets-append}
-use Rattle.grammar.specs.Choice.{by_test}
+use Rattle.grammar.proofs.Stores.{sets-append}
+use Rattle.grammar.proofs.Choice.{by_test}
 use Rattle.writer_spec.specs.Encode.{find, name_bytes, keep, row_bytes, keep_row, rows_bytes, keep_rows}
-use Rattle.writer_spec.specs.Laws.{pool-count}
+use Rattle.writer_spec.proofs.Laws.{pool-count}
 use Rattle.writer_spec.specs.Writer.{wrote, meets_bad, row_pairs, rows_pairs, append, rows_in}
-use Rattle.writer_spec.specs.Held.{pairs-count}
+use Rattle.writer_spec.proofs.Held.{pairs-count}
 use Rattle.writer.specs.Answers.{lent_of, left_of, known_of}
 use Rattle.writer.specs.Notes.{Linked}
 use Rattle.writer.specs.Passes.{Settled, AllSettled, found, Ready, KnownSays, named_by, row_by, token_in, joins_by, pairs_by}

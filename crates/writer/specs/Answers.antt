@@ -6,15 +6,10 @@ use Rattle.writer_spec.specs.Writer.{Lent, Reply, wrote, refused, Left}
 use Rattle.writer_spec.specs.Writer as Spec
 use Rattle.writer.specs.declared.Writer.{Writer}
 use Rattle.writer.specs.declared.Written.{Written}
-use Rattle.writer.specs.declared.Written.TheVariants as Written
 use Rattle.writer.specs.declared.sizes.Fault.{Fault}
-use Rattle.writer.specs.declared.sizes.Fault.TheVariants as Fault
 use Rattle.writer.specs.declared.sizes.Size.{Size}
-use Rattle.writer.specs.declared.sizes.Size.TheVariants as Size
 use Rattle.writer.specs.declared.measure.NameFound.{NameFound}
-use Rattle.writer.specs.declared.measure.NameFound.TheVariants as NameFound
 use Rattle.writer.specs.declared.put.Known.{Known}
-use Rattle.writer.specs.declared.put.Known.TheVariants as Known
 
 -- ---- the public calls
 

@@ -7,7 +7,6 @@ use Rattle.grammar.specs.Document.{Pool}
 use Rattle.writer_spec.specs.Encode.{find}
 use Rattle.writer_spec.specs.Faults.{string_fault}
 use Rattle.writer.specs.declared.notes.Look.{Look}
-use Rattle.writer.specs.declared.notes.Look.TheVariants as Look
 
 -- ---- a note's words: the name's span, its index in the pool, and the number of the note before it in its slot
 

@@ -16,13 +16,9 @@ use Rattle.writer.specs.declared.Written.{Written}
 use Rattle.writer.specs.declared.put.Known as Name
 use Rattle.writer.specs.declared.measure.Tally.{Tally}
 use Rattle.writer.specs.declared.measure.NameSize.{NameSize}
-use Rattle.writer.specs.declared.measure.NameSize.TheVariants as NameSize
 use Rattle.writer.specs.declared.measure.RowSize.{RowSize}
-use Rattle.writer.specs.declared.measure.RowSize.TheVariants as RowSize
 use Rattle.writer.specs.declared.measure.Measured.{Measured}
-use Rattle.writer.specs.declared.measure.Measured.TheVariants as Measured
 use Rattle.writer.specs.declared.tries.Outcome.{Outcome}
-use Rattle.writer.specs.declared.tries.Outcome.TheVariants as Outcome
 
 -- ---- rooms and places
 

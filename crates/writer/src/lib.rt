@@ -1,6 +1,8 @@
 // The writer: a header, one event's rows, a list of events. A call first measures all that it is to write, so that a refused
 // one changes nothing, and then writes it. Modules sizes and notes have what both passes ask, measure and put the passes, tries the
 // call made of them.
+#![tactic(auto)]
+
 mod measure;
 mod notes;
 mod put;
@@ -17,7 +19,7 @@ use wire::{Refusal, limits};
 // ---- what a call lends
 
 // The first `written` bytes of the output are used, the header included; the pool table has `names` pairs.
-#[derive(Drop)]
+#[derive(Clone, Copy)]
 pub struct Writer {
     pub written: usize,
     pub names: usize,

@@ -18,7 +18,7 @@ use event::Shape;
 use wire::{Command, Type};
 
 // Where a name stands in the pool.
-#[derive(Drop)]
+#[derive(Clone, Copy)]
 pub enum Known {
     At(u32),
     New,

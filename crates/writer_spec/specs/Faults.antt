@@ -8,7 +8,6 @@ use Rattle.utf8.specs.Utf8.{well_formed}
 use Rattle.event.specs.Row as Row
 use Rattle.event.specs.Row.{Row, Event, shape, has_name}
 use Rattle.event.specs.declared.Shape.{Shape}
-use Rattle.event.specs.declared.Shape.TheVariants as Shape
 
 -- ---- 14 and 7
 

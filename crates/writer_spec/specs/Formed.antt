@@ -4,7 +4,6 @@ use Rattle.utf8.specs.Utf8.{well_formed}
 use Rattle.event.specs.Row.{Row, Event, shape}
 use Rattle.event.specs.declared.Shape.{Shape}
 use Rattle.event.specs.Row as Row
-use Rattle.event.specs.declared.Shape.TheVariants as Shape
 use Rattle.wire.specs.Token as Token
 use Rattle.writer_spec.specs.Faults.{longest}
 

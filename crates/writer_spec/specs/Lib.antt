@@ -2,15 +2,7 @@ pub mod Encode
 pub mod Names
 pub mod Faults
 pub mod Formed
-pub mod Pooled
-pub mod Taken
 pub mod Example
 pub mod Writer
-pub mod Held
 pub mod Search
-pub mod Events
-pub mod Unrefused
-pub mod Wrote
-pub mod Laws
-pub mod Parts
 pub mod Runs

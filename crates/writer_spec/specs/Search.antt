@@ -6,7 +6,7 @@ use Rattle.std.proofs.Common.{sym, arith, get_or-drop}
 use Prim.Native.Nat.{ℕ, zero, suc, ◌+◌, ◌*◌, ◌≤◌, ◌<◌}
 use borrow.Author.Tests.{leb-true, leb-false}
 use Rattle.event.specs.Span.{part, same}
-use Rattle.grammar.specs.Choice.{by_test}
+use Rattle.grammar.proofs.Choice.{by_test}
 use Rattle.writer_spec.specs.Encode.{find}
 use Rattle.writer_spec.specs.Writer.{pool_at, meets_bad}
 

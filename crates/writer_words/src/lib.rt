@@ -1,4 +1,6 @@
 // The writer's answers as words.
+#![tactic(auto)]
+
 ghost use Rattle.std.specs.Prelude.{◌≡◌};
 ghost use Rattle.writer.specs.Answers.{reply_of};
 ghost use Rattle.abx_words.specs.Words.{answered, reply_words};

@@ -15,16 +15,16 @@ use Rattle.utf8.specs.Utf8.{well_formed}
 use Rattle.event.specs.Row.{row_at}
 use Rattle.event.specs.Words.{list_forms}
 use Rattle.forms.specs.Placed.{row_forms_at}
-use Rattle.grammar.specs.Choice.{by_test}
+use Rattle.grammar.proofs.Choice.{by_test}
 use Rattle.writer_spec.specs.Writer.{Refusal, ◌before◌, refuse_if, rows_in}
 use Rattle.text.specs.Put.{after}
 use Rattle.text.specs.PutLaws.{after-within}
 use Rattle.xml_spec.specs.Chars.{legal}
 use Rattle.xml_spec.specs.ToXml.{of_row, refusal, Left, wrote, refused, unless, to_xml}
 use Rattle.xml_spec.specs.Rows.{rows_xml, row_fault, end_refusal, rows_refusal, row_text, row_refusal, row_to_xml}
-use Rattle.xml_spec.specs.Laws.{prints}
+use Rattle.xml_spec.proofs.Laws.{prints}
 use Rattle.event.specs.Attributes.{list-placed}
-use Rattle.xml_spec.specs.Joined.{rows-joined, rows-refused}
+use Rattle.xml_spec.proofs.Joined.{rows-joined, rows-refused}
 use Rattle.xml.specs.Passes.{told}
 
 pub told-some : (number : ℕ) → (number ≡ 0 → ⊥) → told number ≡ some (number, 0)

@@ -12,7 +12,7 @@ use lib.Seq.{drop-cons, drop-drop, get_or-drop}
 use Rattle.wire.specs.Refusal.{invalid_utf8, illegal_char}
 use Rattle.utf8.specs.Utf8.{well_formed}
 use Rattle.event.specs.Row.{Row, row_at, rows_at}
-use Rattle.grammar.specs.Choice.{by_test}
+use Rattle.grammar.proofs.Choice.{by_test}
 use Rattle.writer_spec.specs.Writer.{◌before◌, rows_in, ends}
 use Rattle.text.specs.Put.{after}
 use Rattle.xml_spec.specs.Chars.{legal}
@@ -21,7 +21,6 @@ use Rattle.xml_spec.specs.Rows.{row_xml, row_fault, end_refusal, rows_refusal}
 use Rattle.xml.specs.Passes.{ends_at, EndSays, left, TurnSays}
 use Rattle.xml.specs.declared.Tally.{Tally}
 use Rattle.xml.specs.declared.Turn.{Turn}
-use Rattle.xml.specs.declared.Turn.TheVariants as Turn
 
 -- ---- words
 

@@ -14,7 +14,6 @@ use Rattle.xml_spec.specs.Rows.{row_xml, rows_xml, rows_refusal}
 use Rattle.xml.specs.Passes.{told, TurnSays}
 use Rattle.xml.specs.declared.Tally.{Tally}
 use Rattle.xml.specs.declared.Turn.{Turn}
-use Rattle.xml.specs.declared.Turn.TheVariants as Turn
 use Rattle.xml.proofs.Laws.{rows_next}
 
 -- after the last row there is none

@@ -2,7 +2,6 @@
 use Rattle.std.specs.Prelude.{List, ℕ}
 use Rattle.xml_spec.specs.ToXml.{Left, wrote, refused}
 use Rattle.xml.specs.declared.Printed.{Printed}
-use Rattle.xml.specs.declared.Printed.TheVariants as Printed
 
 abbrev pub printed_of : List ℕ → Printed → Left
 printed_of out (Printed.Text n) = record { reply = wrote n; out = out }

@@ -7,7 +7,6 @@ use Rattle.writer_spec.specs.Writer.{Refusal, rows_in}
 use Rattle.xml_spec.specs.Rows.{end_refusal, rows_refusal}
 use Rattle.xml.specs.declared.Tally.{Tally}
 use Rattle.xml.specs.declared.Turn.{Turn}
-use Rattle.xml.specs.declared.Turn.TheVariants as Turn
 
 -- no whole row of an attribute stands at a place
 unfoldable pub ends_at : List ℕ → ℕ → Bool

@@ -3,10 +3,9 @@ use Rattle.std.specs.Prelude.{List, ◌≡◌, ℕ, ◌≤◌, length}
 use Rattle.std.proofs.Common.{sym, ap, ◌∙◌, arith}
 use Rattle.xml_spec.specs.ToXml.{Left, to_xml}
 use Rattle.xml_spec.specs.Rows.{row_to_xml}
-use Rattle.xml_spec.specs.Within.{taken, list-within, row_within}
+use Rattle.xml_spec.proofs.Within.{taken, list-within, row_within}
 use Rattle.xml.specs.Answers.{printed_of}
 use Rattle.xml.specs.declared.Printed.{Printed}
-use Rattle.xml.specs.declared.Printed.TheVariants as Printed
 
 pub text-within : (first second rows out out' : List ℕ) (r : Printed) (n : ℕ) → printed_of out' r ≡ to_xml first second rows out → r ≡ Printed.Text n → n ≤ length out
 text-within first second rows out out' r n e f =

@@ -1,5 +1,7 @@
 // Events as XML text. A call first looks at every string and measures all that it is to write, so that a refused one changes
 // nothing, and then writes it.
+#![tactic(auto)]
+
 ghost use Rattle.std.specs.Prelude.{true, ◌≡◌, ◌+◌, ◌*◌, ◌%◌, ◌≤◌, ◌<◌, length, take, drop};
 ghost use Rattle.wire.specs.Limits.{max_store};
 ghost use Rattle.text.specs.Put.{Put};

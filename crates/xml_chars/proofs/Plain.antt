@@ -8,7 +8,7 @@ use lib.Dec.{ltb, leb}
 use lib.ListN.{length, get_or, take}
 use lib.Seq.{take_all}
 use borrow.Author.Tests.{ltb-true, ltb-false, leb-true, le-leb}
-use Rattle.grammar.specs.Choice.{by_test}
+use Rattle.grammar.proofs.Choice.{by_test}
 use Rattle.utf8.specs.Utf8.{octets, well_formed}
 use Rattle.utf8.specs.Laws.{moves}
 use Rattle.wire.specs.Refusal.{invalid_utf8, illegal_char}

@@ -3,7 +3,7 @@ use Rattle.std.specs.Prelude.{Bool, true, false, ◌&&◌, ◌||◌, not, cond, 
 use Rattle.std.proofs.Math.Bool.{and-eq-true_iff, and-false, or-true, or-false}
 use Rattle.std.proofs.lemmas.Bool.{false≢true, lt-leb, eqb-false}
 use Rattle.std.proofs.Common.{sym, ◌∙◌, arith, lt-ltb, le-ltb, le-leb, ne_eqb, leb-true, leb-false, eqb-true}
-use Rattle.grammar.specs.Choice.{by_test}
+use Rattle.grammar.proofs.Choice.{by_test}
 use Rattle.utf8.specs.Utf8.{Range, ◌to◌, within, UTF8-tail, Alternative, ◌then◌, UTF8-char, octets, well_formed}
 use Rattle.utf8.specs.Laws.{follow, nothing, moves}
 use Rattle.xml_spec.specs.Chars.{is_char, chars_from, all_chars, legal}

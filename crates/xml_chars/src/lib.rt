@@ -1,4 +1,6 @@
 // What is wrong with a string of XML: it is not well-formed UTF-8, or has a character outside the Char production.
+#![tactic(auto)]
+
 ghost use Rattle.std.specs.Prelude.{true, not, ◌≡◌, ◌+◌, ◌≤◌, ◌<◌, length, drop};
 ghost use Rattle.xml_spec.specs.Rows.{string_fault};
 ghost use Rattle.xml_chars.specs.Scan.{control, noncharacter, clean};

@@ -1,8 +1,8 @@
 -- How many bytes a string takes over its own where its characters are escaped.
-use Rattle.std.specs.Prelude.{Bool, true, false, ◌&&◌, ◌||◌, not, cond, List, [], ◌∷◌, ◌++◌, ◌≡◌, refl, ℕ, ◌+◌, ◌*◌, ◌-◌, ◌≤◌, leb, eqb, length, take}
+use Rattle.std.specs.Prelude.{Bool, true, false, ◌&&◌, ◌||◌, not, cond, List, [], ◌∷◌, ◌++◌, ◌≡◌, refl, ℕ, ◌+◌, ◌*◌, ◌≤◌, leb, eqb, length, take}
 use Rattle.std.proofs.lemmas.Bool.{false≢true}
 use Rattle.std.proofs.Common.{append_assoc, sym, arith, eqb-true, length-append}
-use Rattle.grammar.specs.Choice.{by_test}
+use Rattle.grammar.proofs.Choice.{by_test}
 use Rattle.xml_spec.specs.Xml.{escaped, escape}
 
 -- of an octet

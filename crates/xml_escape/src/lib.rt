@@ -1,4 +1,6 @@
 // Strings with the five characters escaped that XML keeps for itself.
+#![tactic(auto)]
+
 ghost use Rattle.std.specs.Prelude.{true, ◌≡◌, [], ◌∷◌, ◌+◌, ◌≤◌, ◌<◌, length, take, drop};
 ghost use Rattle.text.specs.Put.{after, Put};
 ghost use Rattle.xml_spec.specs.Xml.{escaped, escape};

@@ -1,5 +1,7 @@
 // A row's part of its event's text: what is wrong with its strings, where it ends, and the text itself. Module values has the text
 // of values.
+#![tactic(auto)]
+
 mod values;
 
 ghost use Rattle.std.specs.Prelude.{true, [], ◌∷◌, ◌++◌, ◌≡◌, length, get_or};

@@ -2,9 +2,5 @@ pub mod Chars
 pub mod Xml
 pub mod ToXml
 pub mod Rows
-pub mod Joined
-pub mod OneRow
-pub mod Laws
-pub mod Within
 pub mod Examples
 pub mod Runs

@@ -9,7 +9,6 @@ use Rattle.event.specs.Row.{Row, Event, shape, has_name}
 use Rattle.event.specs.Row as Row
 use Rattle.event.specs.Words.{list_forms}
 use Rattle.event.specs.declared.Shape.{Shape}
-use Rattle.event.specs.declared.Shape.TheVariants as Shape
 use Rattle.writer_spec.specs.Faults.{group}
 use Rattle.writer_spec.specs.Writer.{Refusal, ◌before◌, refuse_if, rows_in}
 use Rattle.xml_spec.specs.Chars.{legal}

@@ -1,1 +1,2 @@
 // Definitions alone: the XML text of events (specs/).
+#![tactic(auto)]

@@ -1,4 +1,6 @@
 // The text writer's answers as words.
+#![tactic(auto)]
+
 ghost use Rattle.std.specs.Prelude.{List, ◌≡◌, ℕ};
 ghost use Rattle.xml.specs.Answers.{printed_of};
 ghost use Rattle.abx_words.specs.Words.{answered, text_words};

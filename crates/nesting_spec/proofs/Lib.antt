@@ -1,0 +1,4 @@
+pub mod KindLaws
+pub mod Agreement
+pub mod Laws
+pub mod Outline

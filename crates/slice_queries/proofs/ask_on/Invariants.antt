@@ -1,0 +1,13 @@
+use Prim.Native.Nat.{◌-◌}
+use lib.ListN.{length}
+use Rattle.scanner.specs.Select.{query_of}
+use Rattle.slice.specs.Answers.{reached_of}
+use Rattle.slice_queries.proofs.Turning.{Walked}
+use Rattle.slice_queries.proofs.ask_on.Given as goal
+
+abbrev pub invariant-loop-wanted : goal.invariant-loop-wanted
+invariant-loop-wanted l =
+    Walked (query_of l.wanted l.element l.name) l.document (reached_of l.initial.pool l.initial.rows l.initial.reached) (reached_of l.pool l.rows l.reached)
+
+abbrev pub decreases-loop-wanted : goal.decreases-loop-wanted
+decreases-loop-wanted l = length l.document - l.reached.place.at

@@ -1,0 +1,13 @@
+pub mod Held
+pub mod Standing
+pub mod Kept
+pub mod Agreement
+pub mod Whole
+pub mod Asked
+pub mod Answers
+pub mod Consumed
+pub mod Calls
+pub mod Stored
+pub mod Carried
+pub mod Bounds
+pub mod Turns

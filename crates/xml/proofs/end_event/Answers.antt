@@ -1,0 +1,17 @@
+use mathlib.Core.Path.{refl}
+use borrow.Author.Tests.{lt-ltb, le-ltb, not-true, not-false}
+use Rattle.xml_spec.specs.Rows.{end_refusal}
+use Rattle.xml.specs.Passes.{told}
+use Rattle.xml.proofs.end_event.Goals as goal
+
+pub returns-then-not-tally : goal.returns-then-not-tally
+unfolding end_refusal told
+returns-then-not-tally c = (rw (not-true c.args.tally.legal c.if-not-tally.true), refl)
+
+pub returns-then-room-tally : goal.returns-then-room-tally
+unfolding end_refusal told
+returns-then-room-tally c = (rw (not-false c.args.tally.legal c.if-not-tally.false, lt-ltb _ _ c.if-room-tally.true), refl)
+
+pub returns : goal.returns
+unfolding end_refusal
+returns c = (rw (not-false c.args.tally.legal c.if-not-tally.false, le-ltb _ _ c.if-room-tally.false), refl, not-false c.args.tally.legal c.if-not-tally.false)

@@ -1,0 +1,16 @@
+use borrow.Author.Tests.{ne_eqb}
+use Rattle.text.specs.PutLaws.{put-none}
+use Rattle.xml_spec.specs.Xml.{value_xml}
+use Rattle.xml_row.proofs.values.put_mark.Goals as goal
+
+pub returns-then-type_-eq-BOOLEAN_TRUE : goal.returns-then-type_-eq-BOOLEAN_TRUE
+unfolding value_xml
+returns-then-type_-eq-BOOLEAN_TRUE c = rw c.if-type_-eq-BOOLEAN_TRUE.true c.put.ensures
+
+pub returns-then-type_-eq-BOOLEAN_FALSE : goal.returns-then-type_-eq-BOOLEAN_FALSE
+unfolding value_xml
+returns-then-type_-eq-BOOLEAN_FALSE c = rw c.if-type_-eq-BOOLEAN_FALSE.true c.put-then-type_-eq-BOOLEAN_FALSE.ensures
+
+pub returns : goal.returns
+unfolding value_xml
+returns c = rw (ne_eqb _ _ c.if-type_-eq-BOOLEAN_TRUE.false, ne_eqb _ _ c.if-type_-eq-BOOLEAN_FALSE.false) (put-none _ _ _ c.after.ensures)

@@ -1,0 +1,4 @@
+pub mod Joined
+pub mod OneRow
+pub mod Laws
+pub mod Within
