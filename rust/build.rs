@@ -1,4 +1,4 @@
-//! Says where libabx.a is, which the command `rt staticlib abx` makes. Without it all compiles, and only a program can't be linked.
+//! Says where libabx.a is, which the command `tools/staticlib abx` makes. Without it all compiles, and only a program can't be linked.
 
 use std::env;
 use std::path::{Path, PathBuf};
@@ -15,7 +15,7 @@ fn main() {
     let library = dir.join("libabx.a");
     if !library.is_file() {
         let dir = dir.display();
-        println!("cargo:warning=no libabx.a in {dir}, so that no program can be linked: run `rt staticlib abx` in the repository, or name its folder in ABX_LIB_DIR");
+        println!("cargo:warning=no libabx.a in {dir}, so that no program can be linked: run `tools/staticlib abx` in the repository, or name its folder in ABX_LIB_DIR");
     }
     println!("cargo:rerun-if-changed={}", library.display());
     println!("cargo:rustc-link-search=native={}", dir.display());
