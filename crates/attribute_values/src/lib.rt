@@ -13,7 +13,7 @@ use event::Shape;
 use wire::{Command, Refusal, Type};
 
 // An attribute's value. A float is its bits: a number of the language could not hold every NaN.
-#[derive(Drop)]
+#[derive(Clone, Copy)]
 pub enum AttributeValue {
     Null,
     String { source: u32, start: u32, len: u32 },
@@ -29,7 +29,7 @@ pub enum AttributeValue {
 }
 
 // What the accessor answers.
-#[derive(Drop)]
+#[derive(Clone, Copy)]
 pub enum Accessed {
     Value(AttributeValue),
     Refused(Refusal),

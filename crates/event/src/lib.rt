@@ -51,7 +51,7 @@ pub fn text<'a>(document: &'a [u8], source: u32, start: u32, len: u32) -> &'a [u
 // ---- what a row has, by its type and kind
 
 // How the value of a type is carried.
-#[derive(Drop)]
+#[derive(Clone, Copy)]
 pub enum Shape {
     Nothing,
     String,

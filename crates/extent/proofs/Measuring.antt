@@ -12,7 +12,8 @@ use Rattle.wire.specs.Token as Token
 use Rattle.event.specs.declared.Shape.{Shape}
 use Rattle.grammar.specs.Reader.{Read, got, short, refused}
 use Rattle.grammar.specs.Grammar.{Ref, new, known, Value, Item, Items, item, whole, lacks, stops, after, attribute, first, event}
-use Rattle.grammar.proofs.Laws.{RefFits, NameFits, ValueFits, ItemFits, good-first}
+use Rattle.grammar.specs.Fits.{RefFits, NameFits, ValueFits, ItemFits}
+use Rattle.grammar.proofs.Laws.{good-first}
 use Rattle.grammar.specs.Turn.{rest}
 use Rattle.grammar.proofs.Turn.{attribute-fits}
 use Rattle.grammar.specs.Scan.{sound, Outcome, adds, count, lengths, outcome, Measure, measure}

@@ -6,7 +6,7 @@ ghost use Rattle.extent.specs.Answers.{number_of, text_of, name_of, sound_of, po
 
 use wire::Refusal;
 
-#[derive(Drop)]
+#[derive(Clone, Copy)]
 pub enum Number {
     Read { value: u32, next: usize },
     Short,
@@ -26,7 +26,7 @@ fn u16_at(s: &[u8], at: usize) -> Number
     }
 }
 
-#[derive(Drop)]
+#[derive(Clone, Copy)]
 pub enum Text {
     Span {
         start: usize,
@@ -82,7 +82,7 @@ pub(crate) fn blob_at(s: &[u8], at: usize) -> Text
     }
 }
 
-#[derive(Drop)]
+#[derive(Clone, Copy)]
 pub enum Name {
     New {
         start: usize,

@@ -20,7 +20,7 @@ use past::Past;
 use wire::{Command, Refusal, Type, limits};
 
 // How the reading of an event ends: complete, with its length; incomplete; or refused.
-#[derive(Drop)]
+#[derive(Clone, Copy)]
 pub enum Outcome {
     Complete(usize),
     Incomplete,
@@ -28,7 +28,7 @@ pub enum Outcome {
 }
 
 // So many rows, new names, and bytes of these; and how the reading ended.
-#[derive(Drop)]
+#[derive(Clone, Copy)]
 pub struct Measured {
     pub rows: usize,
     pub added: usize,
@@ -99,7 +99,7 @@ fn at_edge(finished: bool, at: usize) -> Outcome
 }
 
 // The place after an attribute, and the tally with it. A place of 0: it was not read.
-#[derive(Drop)]
+#[derive(Clone, Copy)]
 struct Passed {
     next: usize,
     tally: Tally,

@@ -11,7 +11,8 @@ use Rattle.grammar.specs.Document.{Pool, bytes_at, keep, pool_of}
 use Rattle.grammar.specs.Document as D
 use Rattle.grammar.specs.Scan.{adds_ref, adds_name, adds_value, adds_item, adds}
 use Rattle.grammar.proofs.Choice.{by_test, cond-by}
-use Rattle.grammar.proofs.Laws.{In, RefFits, NameFits, ValueFits, ItemFits, Agree}
+use Rattle.grammar.specs.Fits.{In, RefFits, NameFits, ValueFits, ItemFits}
+use Rattle.grammar.proofs.Laws.{Agree}
 use Rattle.grammar.proofs.Steps.{keep_item-length, keep_name-length}
 
 -- ---- what an event adds to the pool

@@ -1,5 +1,5 @@
 -- A walk over an event's rows, for every pass: what is read at a place, and what is left to do then.
-use Rattle.std.specs.Prelude.{Bool, true, false, ◌&&◌, List, [], ◌≡◌, refl, ℕ, ◌≤◌, ◌<◌, ltb, leb, eqb, length, get_or}
+use Rattle.std.specs.Prelude.{Bool, true, false, List, [], ◌≡◌, refl, ℕ, ◌≤◌, ◌<◌, ltb, leb, eqb, length, get_or}
 use Rattle.std.proofs.Common.{sym, ◌∙◌, arith}
 use borrow.Author.Tests.{ltb-true, ltb-false, eqb-true, eqb-false, lt-ltb, le-ltb, eq-eqb, ne_eqb, le-leb, lt-leb}
 use Rattle.wire.specs.Token as Token
@@ -8,11 +8,13 @@ use Rattle.grammar.proofs.Choice.{by_test}
 use Rattle.grammar.specs.Reader.{Read, got, short, refused}
 use Rattle.grammar.specs.Grammar.{Item, Items, item, whole, lacks, stops, after, attribute, first, event}
 use Rattle.grammar.specs.Scan.{complete, outcome}
-use Rattle.grammar.proofs.Laws.{ItemFits, good-first}
+use Rattle.grammar.specs.Fits.{ItemFits}
+use Rattle.grammar.proofs.Laws.{good-first}
 use Rattle.grammar.proofs.Binds.{Got}
 use Rattle.grammar.specs.Turn.{rest}
 use Rattle.grammar.proofs.Turn.{rest_end, rest-other, rest_more, rest-short, rest-stops, attribute-fits}
 use Rattle.grammar.specs.Attributes.{is_attribute}
+use Rattle.grammar.specs.Endings.{Ended}
 
 pub stands : (s : List ℕ) (at : ℕ) → is_attribute s at ≡ true → (at < length s) × (command (get_or s at 0) ≡ Token.attribute)
 unfolding is_attribute
@@ -115,12 +117,6 @@ module _ (Left : Items → Type 0) (S : ℕ → Bool) (s : List ℕ) (names : �
         (λ b. record { moves = omega (arith, w.0); within = w.1; fits = w.2; others = _; left = own-single (eqb-false _ _ b) })
 
 -- ---- an event, or a part of it, that was read whole
-
-abbrev pub Ended : Items → Type 0
-Ended (item i is) = Ended is
-Ended (whole n e) = Unit {0}
-Ended (lacks k) = ⊥
-Ended (stops n d) = ⊥
 
 pub complete-ended : (finished : Bool) (n : ℕ) (is : Items) → outcome finished is ≡ complete n → Ended is
 unfolding outcome

@@ -1,7 +1,6 @@
 -- Laws of the readers: what is read lies in the input, and more input changes nothing that was read.
 use Rattle.std.specs.Prelude.{Bool, true, ◌≡◌, get_or, take, drop, ltb, leb, eqb}
 use Rattle.std.proofs.Math.Bool.{false, cond}
-use Rattle.std.proofs.Math.Option.{Option, none, some}
 use mathlib.Core.List.{List, [], ◌++◌}
 use Rattle.std.proofs.Math.Path.{refl, ap}
 use Prim.Native.Nat.{ℕ, zero, suc, ◌+◌, ◌*◌, ◌-◌, ◌≤◌, ◌<◌}
@@ -14,46 +13,14 @@ use Rattle.grammar.specs.Reader.{Read, Reader, got, short, refused, ◌>>=◌, n
 use Rattle.utf8.specs.Utf8.{well_formed}
 use Rattle.event.specs.Row.{shape, shapes, has_name}
 use Rattle.event.specs.declared.Shape.{Shape}
-use Rattle.grammar.specs.Grammar.{Span, Ref, new, known, Value, Item, Items, item, whole, lacks, stops, byte, u16, u32, u64, raw, utf8, blob, string, counted, counted_name, after, then_items, name, shaped, value, attribute, first, attributes_f, event}
+use Rattle.grammar.specs.Grammar.{Span, new, known, Value, Item, Items, item, whole, lacks, stops, byte, u16, u32, u64, raw, utf8, blob, string, counted, counted_name, after, then_items, name, shaped, value, attribute, first, attributes_f, event}
 use Rattle.wire.specs.Header.{u32_at}
 use Rattle.wire.specs.Token.{command, interned_new}
 use Rattle.wire.specs.Token as Token
 use Rattle.grammar.specs.Document.{type_of}
+use Rattle.grammar.specs.Fits.{In, RefFits, ValueFits, ItemFits}
 use Rattle.grammar.proofs.Choice.{by_test, cond-by}
 use Rattle.grammar.proofs.KindLaws.{bare-unnamed, tag-named, text-unnamed}
-use Rattle.event.specs.declared.Shape.TheVariants as Shape
-
--- a span lies in an input of this length
-abbrev pub In : ℕ → Span → Type 0
-In l t = t.start + t.len ≤ l
-
--- a name fits an input of length l and a pool of so many entries
-abbrev pub RefFits : ℕ → ℕ → Ref → Type 0
-RefFits l names (new t) = In l t
-RefFits l names (known i) = i < names
-
-abbrev pub NameFits : ℕ → ℕ → Option Ref → Type 0
-NameFits l names none = Unit {0}
-NameFits l names (some r) = RefFits l names r
-
--- which shapes carry nothing, and which the bytes of a span
-abbrev pub Nothing : Shape → Type 0
-Nothing Shape.Nothing = Unit {0}
-Nothing Shape.String = ⊥
-Nothing Shape.Interned = ⊥
-Nothing Shape.Blob = ⊥
-Nothing Shape.Word = ⊥
-Nothing Shape.Pair = ⊥
-Nothing Shape.Unknown = Unit {0}
-
-abbrev pub Bytes : Shape → Type 0
-Bytes Shape.Nothing = ⊥
-Bytes Shape.String = Unit {0}
-Bytes Shape.Interned = ⊥
-Bytes Shape.Blob = Unit {0}
-Bytes Shape.Word = ⊥
-Bytes Shape.Pair = ⊥
-Bytes Shape.Unknown = ⊥
 
 -- the shape of an attribute's type once an interned string counts as a string
 abbrev pub plain : Shape → Shape
@@ -87,25 +54,6 @@ shape-type_of (suc (suc (suc (suc n)))) = rw (ne_eqb (suc (suc (suc (suc n)))) 3
     go (suc (suc (suc (suc (suc (suc (suc (suc (suc (suc zero)))))))))) = refl
     go (suc (suc (suc (suc (suc (suc (suc (suc (suc (suc (suc zero))))))))))) = refl
     go (suc (suc (suc (suc (suc (suc (suc (suc (suc (suc (suc (suc n)))))))))))) = refl
-
--- a value fits an input, a pool and the shape of its row's type
-abbrev pub ValueFits : ℕ → ℕ → Shape → Value → Type 0
-ValueFits l names h Value.nothing = Nothing h
-ValueFits l names h Value.empty = Bytes h
-ValueFits l names h (Value.span t) = In l t × Bytes h
-ValueFits l names h (Value.interned r) = RefFits l names r × Bytes h
-ValueFits l names h (Value.word w) = h ≡ Shape.Word
-ValueFits l names h (Value.pair a b) = h ≡ Shape.Pair
-
-abbrev pub named : Option Ref → Bool
-named none = false
-named (some r) = true
-
--- a row on the wire fits an input of length l and a pool of so many entries
-pub record ItemFits (l names : ℕ) (i : Item) : Type 0 where
-  pub name-fits : NameFits l names i.name
-  pub name-kind : has_name i.kind ≡ named i.name
-  pub value-fits : ValueFits l (counted_name names i.name) (shape (type_of i.type)) i.value
 
 module _ (s t : List ℕ) where
   -- what was read at a place moves on by m bytes or more, ends in the input, has the property P and is read from s ++ t too

@@ -5,8 +5,8 @@ use Rattle.std.proofs.Common.{◌∙◌}
 use borrow.Author.Tests.{lt-ltb, le-ltb, eq-eqb, ne_eqb}
 use Rattle.wire.specs.Refusal.{bad_interned_index, bad_state}
 use Rattle.wire.specs.Token.{interned_new}
-use Rattle.grammar.specs.Reader.{Reader, got, short, refused, ◌>>=◌, give}
-use Rattle.grammar.specs.Grammar.{Ref, new, known, u16, string, name}
+use Rattle.grammar.specs.Reader.{got, short, refused, give}
+use Rattle.grammar.specs.Grammar.{new, known, u16, string, name}
 use Rattle.grammar.proofs.Binds.{Got, first-got}
 use Rattle.grammar.specs.Names.{new_name}
 

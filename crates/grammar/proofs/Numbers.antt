@@ -5,7 +5,6 @@ use Rattle.grammar.specs.Reader.{Read, Reader, got, short, refused, ◌>>=◌, n
 use Rattle.utf8.specs.Utf8.{well_formed}
 use Rattle.event.specs.Row.{shape}
 use Rattle.event.specs.declared.Shape.{Shape}
-use Rattle.event.specs.declared.Shape.TheVariants as Shape
 use Rattle.wire.specs.Refusal.{unexpected_eof, unknown_attribute_type}
 use Rattle.wire.specs.Token.{command, interned_new}
 use Rattle.wire.specs.Token as Token

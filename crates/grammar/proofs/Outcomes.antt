@@ -8,12 +8,13 @@ use Rattle.wire.specs.Token as Token
 use Rattle.event.specs.Row.{Event}
 use Rattle.grammar.specs.Reader.{Read, got, short}
 use Rattle.grammar.specs.Grammar.{Item, Items, item, whole, lacks, stops, byte, after, then_items, attribute, first, attributes_f, event}
-use Rattle.grammar.specs.Document.{Pool, all, row_of, rows_of, pool_of, One, one, refused, ending, read_one, reads, ended, stopped, then_reading, read_f, Open, Short, IsTag, Last}
+use Rattle.grammar.specs.Document.{Pool, all, row_of, rows_of, pool_of, One, one, refused, ending, read_one, ended, stopped, then_reading, read_f, Open, Short, IsTag, Last}
 use Rattle.grammar.specs.Scan.{Outcome, complete, incomplete, bad, outcome}
 use Rattle.grammar.proofs.Choice.{by_test}
 use Rattle.grammar.proofs.Laws.{Agree, agree-event}
 use Rattle.grammar.proofs.Numbers.{NumberedItems, event-numbered}
-use Rattle.grammar.proofs.Steps.{Ends, read_s, ReadsOn, reads-on-one, reads-on-edge}
+use Rattle.grammar.specs.Endings.{Ends}
+use Rattle.grammar.proofs.Steps.{read_s, ReadsOn, reads-on-one, reads-on-edge}
 
 -- ---- a complete event
 

@@ -11,13 +11,13 @@ use Rattle.event.specs.Span.{part, span}
 use Rattle.event.specs.Row as Row
 use Rattle.event.specs.Row.{shape, value_at, row_at, rows_at}
 use Rattle.event.specs.declared.Shape.{Shape}
-use Rattle.event.specs.declared.Shape.TheVariants as Shape
 use Rattle.grammar.specs.Grammar.{Span, Ref, new, known, Value, Item, Items, item, whole, lacks, stops, after}
 use Rattle.grammar.specs.Document.{Pool, bytes_at, ref_bytes, name_bytes, value_of, type_of, row_of, rows_of, pool_of}
 use Rattle.grammar.specs.Document as D
 use Rattle.grammar.specs.Scan.{adds_name, adds_value, adds, count, span_words, ref_words, name_words, value_words, item_words, words}
 use Rattle.grammar.proofs.Choice.{cond-by}
-use Rattle.grammar.proofs.Laws.{named, In, RefFits, NameFits, ValueFits, ItemFits, Nothing, Bytes, Agree, part-append}
+use Rattle.grammar.specs.Fits.{named, In, RefFits, NameFits, ValueFits, ItemFits, Nothing, Bytes}
+use Rattle.grammar.proofs.Laws.{Agree, part-append}
 use Rattle.grammar.proofs.Steps.{keep_item-length, keep_name-length}
 use Rattle.grammar.proofs.Added.{these, keep_name-adds, keep_value-adds, pool-adds}
 

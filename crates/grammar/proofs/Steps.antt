@@ -1,5 +1,5 @@
 -- Reading a document event by event: an event that was read whole is the next one of the document, however it goes on.
-use Rattle.std.specs.Prelude.{Bool, true, false, List, [], ◌∷◌, ◌++◌, ◌≡◌, ℕ, zero, suc, ◌+◌, ◌-◌, ◌≤◌, length, take, drop, ltb}
+use Rattle.std.specs.Prelude.{Bool, true, false, List, [], ◌∷◌, ◌++◌, ◌≡◌, ℕ, zero, suc, ◌≤◌, length, take, drop, ltb}
 use Rattle.std.proofs.Math.Option.{Option, none, some}
 use Rattle.std.proofs.Common.{append-nil, ap, ◌∙◌, arith, le-ltb, eq-eqb, length-append, length-drop}
 use Rattle.std.proofs.Math.Path.{refl}
@@ -8,7 +8,9 @@ use Rattle.event.specs.Row.{Event}
 use Rattle.grammar.specs.Grammar.{Span, Ref, new, known, Value, Item, Items, item, whole, lacks, stops, most, counted, counted_name, counted_value, after, event}
 use Rattle.wire.specs.Header.{u32_at, magic, header}
 use Rattle.grammar.specs.Document.{Pool, bytes_at, ref_bytes, keep, name_bytes, keep_name, value_of, keep_value, keep_item, row_of, rows_of, pool_of, One, one, ending, all, read_one, Reading, reads, then_reading, read_f, read, events, sizes, names_from, names_of, Open}
-use Rattle.grammar.proofs.Laws.{In, RefFits, NameFits, ValueFits, ItemFits, Agree, agree-event, part-append, u32_at-append}
+use Rattle.grammar.specs.Endings.{Ends}
+use Rattle.grammar.specs.Fits.{In, RefFits, NameFits, ValueFits, ItemFits}
+use Rattle.grammar.proofs.Laws.{Agree, agree-event, part-append, u32_at-append}
 use Rattle.event.specs.declared.Shape.{Shape}
 use Rattle.grammar.proofs.Choice.{by_test}
 
@@ -92,13 +94,6 @@ module _ (s t : List ℕ) where
   unfolding keep_item
   keep_item-append k pool i f =
       rw (keep_name-append k pool i.name f.name-fits, keep_value-append _ _ (keep_name s pool i.name) i.value f.value-fits)
-
--- an event's reading ended whole, at a place n, and e says whether the input ends there
-abbrev pub Ends : ℕ → Bool → Items → Type 0
-Ends n e (item i is) = Ends n e is
-Ends n e (whole m d) = (m ≡ n) × (d ≡ e)
-Ends n e (lacks k) = ⊥
-Ends n e (stops m d) = ⊥
 
 -- the whole event from s is the event from s ++ t
 pub record Again (s t : List ℕ) (pool : Pool) (n : ℕ) (is y : Items) : Type 0 where

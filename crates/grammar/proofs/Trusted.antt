@@ -8,14 +8,14 @@ use Rattle.wire.specs.Token.{command, interned_new}
 use Rattle.wire.specs.Refusal.{bad_state, bad_interned_index, unknown_command}
 use Rattle.event.specs.Row.{shape}
 use Rattle.event.specs.declared.Shape.{Shape}
-use Rattle.event.specs.declared.Shape.TheVariants as Shape
 use Rattle.grammar.proofs.Choice.{by_test}
 use Rattle.grammar.specs.Reader.{Reader, got, ◌>>=◌, give, refuse}
 use Rattle.grammar.specs.Grammar.{Ref, new, known, Value, Item, item, counted, after, byte, u16, string, name, shaped, value, attribute, first, event}
 use Rattle.grammar.proofs.Binds.{bind-got, first-got}
 use Rattle.grammar.specs.Turn.{rest}
 use Rattle.grammar.specs.Attributes.{is_attribute}
-use Rattle.grammar.proofs.Attributes.{stands, turn_end, turn-row, own-tag, own-single, Ended, attribute-before, own-before}
+use Rattle.grammar.specs.Endings.{Ended}
+use Rattle.grammar.proofs.Attributes.{stands, turn_end, turn-row, own-tag, own-single, attribute-before, own-before}
 use Rattle.grammar.specs.Trusted.{always}
 
 -- what the one reads, the other reads

@@ -7,9 +7,10 @@ use borrow.Author.Tests.{lt-ltb, le-ltb, eq-eqb, ne_eqb}
 use Rattle.wire.specs.Token as Token
 use Rattle.wire.specs.Token.{command}
 use Rattle.grammar.specs.Reader.{got, short, refused}
-use Rattle.grammar.specs.Grammar.{Item, Items, item, whole, lacks, stops, after, attribute, attributes_f}
+use Rattle.grammar.specs.Grammar.{Item, item, whole, lacks, stops, after, attribute, attributes_f}
 use Rattle.grammar.specs.Turn.{rest}
-use Rattle.grammar.proofs.Laws.{ItemFits, attributes_f-more, good-attribute}
+use Rattle.grammar.specs.Fits.{ItemFits}
+use Rattle.grammar.proofs.Laws.{attributes_f-more, good-attribute}
 
 module _ (sound : ℕ → Bool) (s : List ℕ) where
   end_of : (f names at : ℕ) → length s ≤ at → attributes_f sound f names s at ≡ whole at true

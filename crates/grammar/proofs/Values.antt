@@ -4,9 +4,8 @@ use Rattle.std.proofs.Math.Path.{sym}
 use Rattle.std.proofs.Common.{◌∙◌}
 use Rattle.event.specs.Row.{shape}
 use Rattle.event.specs.declared.Shape.{Shape}
-use Rattle.event.specs.declared.Shape.TheVariants as Shape
 use Rattle.grammar.specs.Reader.{Read, got, next, give}
-use Rattle.grammar.specs.Grammar.{Span, Ref, Value, span, interned, string, shaped, value}
+use Rattle.grammar.specs.Grammar.{Span, Ref, Value, span, string, shaped, value}
 use Rattle.grammar.proofs.Binds.{Got, first-got}
 
 -- ---- a value, as its field was read

@@ -9,8 +9,7 @@ use Rattle.wire.specs.Token as Token
 use Rattle.utf8.specs.Utf8.{well_formed}
 use Rattle.event.specs.Row.{shape}
 use Rattle.event.specs.declared.Shape.{Shape}
-use Rattle.event.specs.declared.Shape.TheVariants as Shape
-use Rattle.grammar.specs.Reader.{Read, Reader, got, short, refused, ◌>>=◌, next, give, refuse}
+use Rattle.grammar.specs.Reader.{Read, Reader, got, short, refused, ◌>>=◌, give, refuse}
 
 -- a part of the input
 pub record Span : Type 0 where

@@ -8,3 +8,5 @@ pub mod Turn
 pub mod Names
 pub mod Attributes
 pub mod Trusted
+pub mod Fits
+pub mod Endings

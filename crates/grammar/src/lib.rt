@@ -1,2 +1,2 @@
-// Definitions and laws alone, in specs/; the code that meets them is the crates `quick` and `scanner`.
+// Definitions in specs/ and their laws, most in proofs/; the code that meets them is the crates `quick` and `scanner`.
 #![tactic(auto)]

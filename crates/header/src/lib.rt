@@ -11,7 +11,7 @@ use wire::Refusal;
 pub const MAGIC: [u8; 4] = [0x41, 0x42, 0x58, 0x00];
 
 // Whether a document starts as it must.
-#[derive(Drop)]
+#[derive(Clone, Copy)]
 pub enum Header {
     Passed,
     Refused(Refusal),

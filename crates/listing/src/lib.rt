@@ -98,7 +98,7 @@ fn put_type(kind: u32, type_: u32, out: &mut [u8], at: usize) -> usize
 // ---- lines
 
 // What a call answers: the line's length, or why there is none.
-#[derive(Drop)]
+#[derive(Clone, Copy)]
 pub enum Lined {
     Line(usize),
     Refused(Refusal),

@@ -12,7 +12,7 @@ ghost use Rattle.nesting.specs.Reading.{name_at, same_spans, same_names, tags_fr
 use wire::{Command, Refusal};
 
 // Whether an event list is one nested document.
-#[derive(Drop)]
+#[derive(Clone, Copy)]
 pub enum Nesting {
     Yes,
     No,
@@ -23,7 +23,7 @@ pub enum Nesting {
 const DEPTH: usize = 64;
 
 // The row at which reading goes on; or that the rows cannot nest.
-#[derive(Drop)]
+#[derive(Clone, Copy)]
 enum Step {
     Next(usize),
     Broken,

@@ -1,2 +1,2 @@
-// Definitions and laws alone, in specs/; the code that meets them is the crate `nesting`.
+// Definitions in specs/ and their laws in proofs/; the code that meets them is the crate `nesting`.
 #![tactic(auto)]

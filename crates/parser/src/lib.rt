@@ -11,7 +11,7 @@ use slice::Place;
 
 // A document, the place of its next event, and how many pairs of the pool table are names; then the number and detail of a
 // refused `new`, 0 if it was not refused. They stand here because an enum can't hold a reference.
-#[derive(Drop)]
+#[derive(Clone, Copy)]
 pub struct AbxParser<'a> {
     pub document: &'a [u8],
     pub at: usize,

@@ -10,7 +10,7 @@ use slice::{Created, Next, Place};
 use wire::Refusal;
 
 // What next_event answers: an event of so many rows, whose place after it went into the parser; the end; or a refusal.
-#[derive(Drop)]
+#[derive(Clone, Copy)]
 pub enum Parsed {
     Event(usize),
     End,
@@ -19,7 +19,7 @@ pub enum Parsed {
 
 // What a query answers: how it ended, how many events it consumed, and how many rows it wrote. A refused query keeps what it
 // found before.
-#[derive(Drop)]
+#[derive(Clone, Copy)]
 pub enum Asked {
     Found {
         events: usize,
@@ -37,7 +37,7 @@ pub enum Asked {
 }
 
 // The numbers of a new parser.
-#[derive(Drop)]
+#[derive(Clone, Copy)]
 pub struct Opened {
     pub at: usize,
     pub names: usize,
@@ -65,7 +65,7 @@ pub fn start(document: &[u8], pool: &[u32]) -> Opened
 }
 
 // The place of a parser that has answered, and the answer.
-#[derive(Drop)]
+#[derive(Clone, Copy)]
 pub struct Stepped {
     pub at: usize,
     pub names: usize,
@@ -111,7 +111,7 @@ pub fn step(
 }
 
 // The place of a parser that was asked, and the answer.
-#[derive(Drop)]
+#[derive(Clone, Copy)]
 pub struct Sought {
     pub at: usize,
     pub names: usize,

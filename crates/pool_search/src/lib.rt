@@ -6,7 +6,7 @@ ghost use Rattle.event.specs.Span.{same};
 ghost use Rattle.pool_index.specs.Index.{Indexed, MaybeIndexed};
 ghost use Rattle.pool_search.specs.Search.{searched, found_of};
 
-#[derive(Drop)]
+#[derive(Clone, Copy)]
 pub enum Found {
     At(usize),
     Nowhere,

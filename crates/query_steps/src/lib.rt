@@ -38,8 +38,8 @@ pub fn after(wanted: Query, kind: u32, count: usize) -> Onward
 }
 
 // Whether a query is over.
-pub fn is_over(onward: &Onward) -> bool
-    ensures { result ≡ stops (step_of onward.now) }
+pub fn is_over(onward: Onward) -> bool
+    ensures { result ≡ stops (step_of onward) }
 {
     match onward {
         Onward::Next => false,

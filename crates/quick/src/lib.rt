@@ -33,7 +33,7 @@ pub struct Flat {
 }
 
 // The rows of an event, and its length; 0 there: declined.
-#[derive(Drop)]
+#[derive(Clone, Copy)]
 pub struct Taken {
     pub rows: usize,
     pub len: usize,

@@ -46,7 +46,7 @@ fn stored_in(copied: bool, store: usize, end: usize) -> usize
 }
 
 // The number of a refusal, or 0; and then how many bytes the store of the pool's names has.
-#[derive(Drop)]
+#[derive(Clone, Copy)]
 pub struct Checked {
     pub refusal: u32,
     pub stored: usize,

@@ -14,7 +14,8 @@ use Rattle.grammar.specs.Reader.{Read, got}
 use Rattle.grammar.specs.Document.{type_of}
 use Rattle.grammar.specs.Grammar.{Span, Ref, new, known, Value, Item, counted, counted_name, after, string, blob, name, value, attribute, first}
 use Rattle.grammar.specs.Scan.{adds_ref, adds_name, adds_value, adds_item, span_words, ref_words, name_words, value_words, item_words}
-use Rattle.grammar.proofs.Laws.{RefFits, NameFits, ValueFits, ItemFits, good-name}
+use Rattle.grammar.specs.Fits.{RefFits, NameFits, ValueFits, ItemFits}
+use Rattle.grammar.proofs.Laws.{good-name}
 use Rattle.grammar.proofs.Added.{adds_ref-in, counted-adds, counted_name-adds, counted_value-adds}
 use Rattle.grammar.proofs.Stores.{get_d_sets}
 use Rattle.grammar.proofs.Binds.{Got}

@@ -12,7 +12,8 @@ use Rattle.wire.specs.Refusal.{rows_full, pool_full, names_full}
 use Rattle.grammar.proofs.Choice.{by_test}
 use Rattle.grammar.specs.Grammar.{Span, Items, item, whole, lacks, stops, event}
 use Rattle.grammar.specs.Scan.{sound, adds, lengths, count, words, complete, incomplete, bad, outcome, Measure, measure}
-use Rattle.grammar.proofs.Attributes.{Ended, complete-ended, own-before, own_row}
+use Rattle.grammar.specs.Endings.{Ended}
+use Rattle.grammar.proofs.Attributes.{complete-ended, own-before, own_row}
 use Rattle.grammar.specs.Trusted.{always}
 use Rattle.grammar.proofs.Trusted.{trusted-event}
 use Rattle.extent.specs.Measured.{measured}

@@ -8,14 +8,15 @@ use lib.ListN.{length, length-append}
 use lib.Seq.{sets, length-sets}
 use Rattle.grammar.specs.Grammar.{Span, Item, Items, item, whole, after, attribute}
 use Rattle.grammar.specs.Scan.{adds_item, adds, count, item_words, words}
-use Rattle.grammar.proofs.Laws.{ItemFits}
+use Rattle.grammar.specs.Fits.{ItemFits}
 use Rattle.grammar.proofs.Added.{AllIn, all_in-append, adds_item-in, after-adds}
 use Rattle.grammar.proofs.Stores.{sets-append}
 use Rattle.grammar.proofs.Said.{words-length}
 use Rattle.grammar.proofs.Binds.{Got}
 use Rattle.grammar.specs.Turn.{rest}
 use Rattle.grammar.specs.Attributes.{is_attribute}
-use Rattle.grammar.proofs.Attributes.{stands, Turn, turn_end, turn-row, Ended, attribute-before}
+use Rattle.grammar.specs.Endings.{Ended}
+use Rattle.grammar.proofs.Attributes.{stands, Turn, turn_end, turn-row, attribute-before}
 use Rattle.grammar.specs.Trusted.{always}
 use Rattle.scanner.specs.declared.fill.Home.{Home}
 use Rattle.scanner.specs.declared.fill.Kept.{Kept}

@@ -6,9 +6,9 @@ use Rattle.wire.specs.Token as Token
 use Rattle.grammar.specs.Reader.{Read, got, short, refused}
 use Rattle.grammar.specs.Grammar.{Span, Ref, Value, Item, Items, item, whole, after, event}
 use Rattle.grammar.specs.Scan.{adds_ref, adds_value, adds_item, adds, lengths, pairs, copied_pairs, joined, count, ref_words, value_words, item_words, words}
-use Rattle.grammar.proofs.Laws.{ItemFits}
+use Rattle.grammar.specs.Fits.{ItemFits}
 use Rattle.grammar.specs.Turn.{rest}
-use Rattle.grammar.proofs.Attributes.{Ended}
+use Rattle.grammar.specs.Endings.{Ended}
 use Rattle.grammar.specs.Trusted.{always}
 use Rattle.scanner.specs.declared.fill.Home.{Home}
 use Rattle.scanner.specs.declared.fill.Kept.{Kept}

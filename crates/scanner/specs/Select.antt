@@ -9,7 +9,7 @@ use Rattle.grammar.specs.Grammar.{Items, item, whole, lacks, stops}
 use Rattle.grammar.specs.Scan.{item_words, adds, pairs, Outcome, complete, incomplete, bad, outcome}
 use Rattle.grammar.specs.Scan as Scan
 use Rattle.grammar.proofs.Choice.{by_test}
-use Rattle.grammar.proofs.Attributes.{Ended}
+use Rattle.grammar.specs.Endings.{Ended}
 use Rattle.slice_spec.specs.Queries as Defined
 use Rattle.slice_spec.specs.Queries.{Words, named, is_element, concat, Progress, done, refused, table_with}
 use Rattle.slice_spec.specs.Slice.{Place, sizes_bad, place_bad, items_at}

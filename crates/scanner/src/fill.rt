@@ -33,7 +33,7 @@ pub struct Kept {
 // ---- words
 
 // Three words of a row: a span's source, start and length, or what the value's type has in their place.
-#[derive(Drop)]
+#[derive(Clone, Copy)]
 pub struct Words {
     pub source: u32,
     pub a: u32,
@@ -163,7 +163,7 @@ fn keep_new(
 // ---- what a row carries
 
 // Three words of a row, the place after what they were read from, and what is kept then.
-#[derive(Drop)]
+#[derive(Clone, Copy)]
 pub struct Filled {
     pub words: Words,
     pub next: usize,
@@ -262,7 +262,7 @@ fn value(
 // ---- rows
 
 // The place after rows that were written, and what is kept then.
-#[derive(Drop)]
+#[derive(Clone, Copy)]
 pub struct Ahead {
     pub next: usize,
     pub kept: Kept,
@@ -386,7 +386,7 @@ fn rest(
 }
 
 // The event's own row was written where the place is its first byte; `to` is the word after it. inside says that attributes may follow.
-#[derive(Drop)]
+#[derive(Clone, Copy)]
 pub struct Begun {
     pub next: usize,
     pub kept: Kept,

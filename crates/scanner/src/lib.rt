@@ -18,7 +18,7 @@ use wire::Refusal;
 
 // The spare words of an event lie where a refusal's numbers do, so that the compiler copies no word of it in two parts, for which
 // a read right after it would wait (docs/BENCHMARKS.md).
-#[derive(Drop)]
+#[derive(Clone, Copy)]
 pub enum Stepped {
     Event {
         spare: Refusal,

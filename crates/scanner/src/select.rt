@@ -23,7 +23,7 @@ pub enum Query {
 }
 
 // An event was consumed, and so many rows of it were written; or the input is at its end.
-#[derive(Drop)]
+#[derive(Clone, Copy)]
 pub enum Picked {
     Event {
         kind: u32,
@@ -36,14 +36,14 @@ pub enum Picked {
 }
 
 // What is picked without counting; or only counting tells whether the rows left are enough.
-#[derive(Drop)]
+#[derive(Clone, Copy)]
 pub enum Uncounted {
     Picked(Picked),
     Unsure,
 }
 
 // What lies at a place: an event of so many rows, new names and bytes, or the end.
-#[derive(Drop)]
+#[derive(Clone, Copy)]
 enum Seen {
     Whole {
         rows: usize,
@@ -203,7 +203,7 @@ fn take_first(own: bool, write: bool, rows: &mut [u32], to: usize, row: &[u32]) 
 }
 
 // An event's kind, and how many of its rows are taken.
-#[derive(Drop)]
+#[derive(Clone, Copy)]
 pub struct Took {
     pub kind: u32,
     pub rows: usize,

@@ -20,13 +20,13 @@ pub struct Place {
     pub names: usize,
 }
 
-#[derive(Drop)]
+#[derive(Clone, Copy)]
 pub enum Created {
     Place(Place),
     Refused(Refusal),
 }
 
-#[derive(Drop)]
+#[derive(Clone, Copy)]
 pub enum Next {
     Event { rows: usize, place: Place },
     End,

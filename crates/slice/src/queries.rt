@@ -11,7 +11,7 @@ pub struct Reached {
 }
 
 // A refused query keeps what it found before.
-#[derive(Drop)]
+#[derive(Clone, Copy)]
 pub enum Queried {
     Found(Reached),
     Done(Reached),
@@ -19,7 +19,7 @@ pub enum Queried {
 }
 
 // Whether a query goes on after an event, or how it ends.
-#[derive(Drop)]
+#[derive(Clone, Copy)]
 pub enum Onward {
     Next,
     Found,
@@ -28,14 +28,14 @@ pub enum Onward {
 }
 
 // How far it came with an event.
-#[derive(Drop)]
+#[derive(Clone, Copy)]
 pub struct Passed {
     pub onward: Onward,
     pub reached: Reached,
 }
 
 // It ended, or came to an event of which only counting tells whether the rows left are enough.
-#[derive(Drop)]
+#[derive(Clone, Copy)]
 pub enum Asked {
     Ended(Queried),
     Unsure(Reached),

@@ -82,7 +82,8 @@ fn ask(
         ) {
             Uncounted::Picked(picked) => {
                 let passed = pass(wanted, reached, picked);
-                if is_over(&passed.onward) {
+                let onward = passed.onward;
+                if is_over(onward) {
                     return Asked::Ended(told(passed));
                 }
                 reached = passed.reached;
@@ -123,7 +124,8 @@ fn ask_on(
             reached.rows,
         );
         let passed = pass(wanted, reached, picked);
-        if is_over(&passed.onward) {
+        let onward = passed.onward;
+        if is_over(onward) {
             return told(passed);
         }
         reached = passed.reached;

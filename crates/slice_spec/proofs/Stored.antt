@@ -11,7 +11,8 @@ use Rattle.event.specs.declared.Shape.{Shape}
 use Rattle.grammar.specs.Grammar.{Span, Ref, new, known, Value, Items, item, whole, lacks, stops, counted_name, after}
 use Rattle.grammar.specs.Scan.{sound, pairs, adds_name, adds_value, adds_item, adds, span_words, ref_words, name_words, value_words, item_words, words}
 use Rattle.grammar.proofs.Added.{counted_name-adds, counted_value-adds, after-adds}
-use Rattle.grammar.proofs.Laws.{RefFits, NameFits, ValueFits, Agree, agree-event}
+use Rattle.grammar.specs.Fits.{RefFits, NameFits, ValueFits}
+use Rattle.grammar.proofs.Laws.{Agree, agree-event}
 use Rattle.slice_spec.specs.Slice.{Place, items_at, table_after}
 use Rattle.slice_spec.specs.Queries.{table_with}
 use Rattle.grammar.proofs.Stores.{pairs-length}

@@ -58,7 +58,7 @@ fn state_bad(stream: Stream, window: &[u8], table: &[u32], store: &[u8]) -> bool
 }
 
 // Whether a call may go on, or the number of its refusal.
-#[derive(Drop)]
+#[derive(Clone, Copy)]
 pub enum Checked {
     Passed,
     Refused(u32),
@@ -93,7 +93,7 @@ fn check_open(stream: Stream, window: &[u8], table: &[u32], store: &[u8]) -> Che
 
 // ---- creation
 
-#[derive(Drop)]
+#[derive(Clone, Copy)]
 pub enum Created {
     Stream(Stream),
     Refused(Refusal),
@@ -155,7 +155,7 @@ fn fill(window: &mut [u8], start: usize, end: usize, chunk: &[u8]) -> usize
     fitting
 }
 
-#[derive(Drop)]
+#[derive(Clone, Copy)]
 pub enum Fed {
     Took { count: usize, stream: Stream },
     Refused(Refusal),
@@ -188,7 +188,7 @@ pub fn feed(stream: Stream, window: &mut [u8], table: &[u32], store: &[u8], chun
 
 // ---- finish
 
-#[derive(Drop)]
+#[derive(Clone, Copy)]
 pub enum Closed {
     Stream(Stream),
     Refused(Refusal),
@@ -213,7 +213,7 @@ pub fn finish(stream: Stream, window: &[u8], table: &[u32], store: &[u8]) -> Clo
 
 // ---- next
 
-#[derive(Drop)]
+#[derive(Clone, Copy)]
 pub enum Answer {
     Event { rows: usize, stream: Stream },
     NeedMore(Stream),

@@ -1,2 +1,2 @@
-// Definitions and laws alone, in specs/; the code that meets them is the crates `stream` and `stream_next`.
+// Definitions in specs/ and their laws in proofs/; the code that meets them is the crates `stream` and `stream_next`.
 #![tactic(auto)]

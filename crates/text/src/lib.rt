@@ -87,7 +87,7 @@ pub fn put_hex(s: &[u8], out: &mut [u8], at: usize) -> usize
 // ---- numbers
 
 // A number's digits: the last of the bytes, from a start on.
-#[derive(Drop)]
+#[derive(Clone, Copy)]
 pub struct Numeral {
     pub bytes: [u8; 20],
     pub start: usize,

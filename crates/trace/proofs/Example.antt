@@ -12,7 +12,7 @@ use Rattle.grammar.specs.Grammar as G
 use Rattle.grammar.specs.Example.{events, document, p, v}
 use Rattle.writer_spec.specs.Encode as E
 use Rattle.writer_spec.specs.Faults as F
-use Rattle.writer_spec.proofs.Taken.{Words32}
+use Rattle.writer_spec.specs.Formed.{Words32}
 use Rattle.writer_spec.specs.Writer as W
 use Rattle.trace.specs.Trace.{Made}
 

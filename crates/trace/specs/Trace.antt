@@ -4,7 +4,7 @@ use Rattle.std.specs.Prelude.{true, List, ◌≡◌, ℕ, ◌/◌, length, take,
 use Rattle.event.specs.Row.{Event, rows_at}
 use Rattle.writer_spec.specs.Faults.{group}
 use Rattle.writer_spec.specs.Names.{kept_names}
-use Rattle.writer_spec.proofs.Taken.{Words32}
+use Rattle.writer_spec.specs.Formed.{Words32}
 use Rattle.writer_spec.specs.Writer as Writer
 use Rattle.writer_spec.specs.Writer.{Writer, wrote, write_events}
 use Rattle.stream_spec.specs.Stream.{Stream, Lent, create, created}

@@ -25,7 +25,8 @@ use Rattle.writer_spec.specs.Faults.{longest}
 use Rattle.event.specs.Span.{same}
 use Rattle.event.specs.Laws.{same-eq}
 use Rattle.writer_spec.specs.Formed.{Str, FormedValue, FormedAttribute, FormedAttributes, FormedFirst, FormedEvent, FormedEvents}
-use Rattle.grammar.proofs.Steps.{Ends, keep_item-length}
+use Rattle.grammar.specs.Endings.{Ends}
+use Rattle.grammar.proofs.Steps.{keep_item-length}
 use Rattle.event.specs.Row as Row
 use Rattle.grammar.specs.Document as D
 use Rattle.grammar.proofs.KindLaws.{bare-unnamed, tag-named, text-unnamed, command-token, type-token}

@@ -1,2 +1,2 @@
-// The claim of demand 3 and its proof alone, in specs/ and proofs/: the round trip, and demand 3.
+// Demand 3 and the round trip alone: the claim in specs/, the theorems in proofs/.
 #![tactic(auto)]

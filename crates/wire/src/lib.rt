@@ -13,7 +13,7 @@ ghost use Rattle.wire.specs.Header.{u32_of};
 pub const INTERNED_NEW: u32 = 65535;
 
 // What a token is: an event's kind, or an attribute of a start tag. The numbers are words of a row, so they are u32.
-#[derive(Drop)]
+#[derive(Clone, Copy)]
 pub struct Command(pub u32);
 
 impl Command {
@@ -70,7 +70,7 @@ impl Command {
 }
 
 // How a token's value is written.
-#[derive(Drop)]
+#[derive(Clone, Copy)]
 pub struct Type(pub u32);
 
 impl Type {
@@ -130,7 +130,7 @@ impl Type {
 }
 
 // Why a call was refused: a number and a detail, which is 0 where none is named.
-#[derive(Drop)]
+#[derive(Clone, Copy)]
 pub struct Refusal {
     pub number: u32,
     pub detail: u32,

@@ -25,7 +25,7 @@ pub struct Writer {
     pub names: usize,
 }
 
-#[derive(Drop)]
+#[derive(Clone, Copy)]
 pub enum Written {
     Wrote(Writer),
     Refused(Refusal),

@@ -18,7 +18,7 @@ use crate::{Writer, notes, sizes};
 use pool_search::Found;
 use wire::{Command, Refusal};
 
-#[derive(Drop)]
+#[derive(Clone, Copy)]
 pub enum NameFound {
     At(usize),
     Nowhere,
@@ -43,7 +43,7 @@ fn find_name(output: &[u8], pool: &[u32], kept: usize, name: &[u8], index: &[u16
 }
 
 // What a name takes, with the names and the words of notes after it; or why it is refused.
-#[derive(Drop)]
+#[derive(Clone, Copy)]
 pub enum NameSize {
     Takes {
         size: usize,
@@ -198,7 +198,7 @@ fn quick_name_size<'a>(
 }
 
 // What has been measured: the place in the output, the names in the pool, and the words of notes in use.
-#[derive(Drop)]
+#[derive(Clone, Copy)]
 pub struct Tally {
     pub at: usize,
     pub names: usize,
@@ -206,7 +206,7 @@ pub struct Tally {
 }
 
 // What has been measured with a row more, or why that row is refused.
-#[derive(Drop)]
+#[derive(Clone, Copy)]
 pub enum RowSize {
     Takes(Tally),
     Refused(Refusal),
@@ -289,7 +289,7 @@ fn room_fault(output: &[u8], pool: &[u32], at: usize, names: usize) -> Fault
 }
 
 // How many words of notes are in use, or why the call is refused.
-#[derive(Drop)]
+#[derive(Clone, Copy)]
 pub enum Measured {
     Used(usize),
     Refused(Refusal),

@@ -35,7 +35,7 @@ fn is_noted<'a>(
     equal_bytes::same_bytes(event::span(first, second, source, start, len), name)
 }
 
-#[derive(Drop)]
+#[derive(Clone, Copy)]
 pub enum Look {
     At(u32),
     Nowhere,

@@ -28,7 +28,7 @@ pub(crate) fn value_in<'a>(first: &'a [u8], second: &'a [u8], w: &[u32]) -> &'a 
 }
 
 // Nothing, or why a call is refused.
-#[derive(Drop)]
+#[derive(Clone, Copy)]
 pub enum Fault {
     Nothing,
     Refused(Refusal),
@@ -65,7 +65,7 @@ pub(crate) fn string_fault(s: &[u8]) -> Fault
 }
 
 // How many bytes something takes, or why it is refused.
-#[derive(Drop)]
+#[derive(Clone, Copy)]
 pub enum Size {
     Takes(usize),
     Refused(Refusal),

@@ -13,7 +13,7 @@ use crate::{Writer, Written, measure, put};
 use wire::Refusal;
 
 // What a try with so many notes came to. Crowded: it had no room for another, and changed nothing.
-#[derive(Drop)]
+#[derive(Clone, Copy)]
 pub enum Outcome {
     Left(Written),
     Crowded,

@@ -22,7 +22,8 @@ use Rattle.grammar.specs.Document.{Pool}
 use Rattle.writer_spec.specs.Encode.{rows_bytes, keep_rows, flat, encode}
 use Rattle.writer_spec.specs.Faults.{rows_fault, glue, group}
 use Rattle.writer_spec.specs.Formed.{FormedEvents}
-use Rattle.writer_spec.proofs.Taken.{no-faults, Words32, taken}
+use Rattle.writer_spec.specs.Formed.{Words32}
+use Rattle.writer_spec.proofs.Taken.{no-faults, taken}
 use Rattle.writer_spec.specs.Writer.{Writer, Lent, wrote, refused, Left, Refusal, ◌before◌, refuse_if, sizes_bad, state_bad, pool_at, meets_bad, rows_refusal, rows_pairs, unless, advanced, begin, create, refusal, append, write, rows_in, write_event, write_events}
 use Rattle.writer_spec.proofs.Held.{pairs-count}
 use Rattle.writer_spec.proofs.Unrefused.{no-refuse, no-fault, fits, room-enough}

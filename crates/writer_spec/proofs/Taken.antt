@@ -15,7 +15,7 @@ use Rattle.event.specs.Row.{Row, Event, shape, shapes, has_name, value_at, row_a
 use Rattle.event.specs.declared.Shape.{Shape}
 use Rattle.event.specs.Span.{span, span_in}
 use Rattle.writer_spec.specs.Encode.{flat}
-use Rattle.writer_spec.specs.Formed.{Str, FormedValue, FormedAttribute, FormedAttributes, FormedFirst, FormedEvent, FormedEvents}
+use Rattle.writer_spec.specs.Formed.{Str, FormedValue, FormedAttribute, FormedAttributes, FormedFirst, FormedEvent, FormedEvents, Words32}
 use Rattle.event.specs.Words.{zeros, value_forms, attribute_forms, row_forms, row_forms_in, opens, rows_form}
 use Rattle.writer_spec.specs.Faults.{longest, blob_fault, string_fault, first_fault, value_fault, row_fault, rows_fault, glue, group}
 use Rattle.event.specs.Row as Row
@@ -43,10 +43,6 @@ no-faults none g h = (refl, h)
 no-faults (some f) g h = absurd (some≢none h)
 
 -- ---- one row
-
--- the words are u32
-abbrev pub Words32 : List ℕ → Type 0
-Words32 w = (i : ℕ) → get_or w i 0 < 4294967296
 
 abbrev RowOK : Bool → Row → Type 0
 RowOK inside r = cond (eqb r.kind 15) ((inside ≡ true) × FormedAttribute r) (FormedFirst r)

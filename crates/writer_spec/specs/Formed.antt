@@ -1,5 +1,5 @@
 -- Which events the writer takes: those that its refusals 16, 14 and 7 leave.
-use Rattle.std.specs.Prelude.{true, cond, List, [], ◌∷◌, ◌≡◌, ℕ, ◌≤◌, ◌<◌, length, ltb, leb, eqb}
+use Rattle.std.specs.Prelude.{true, cond, List, [], ◌∷◌, ◌≡◌, ℕ, ◌≤◌, ◌<◌, length, get_or, ltb, leb, eqb}
 use Rattle.utf8.specs.Utf8.{well_formed}
 use Rattle.event.specs.Row.{Row, Event, shape}
 use Rattle.event.specs.declared.Shape.{Shape}
@@ -46,3 +46,7 @@ FormedEvent (r ∷ rs) = FormedFirst r × cond (eqb r.kind Token.start_tag) (For
 abbrev pub FormedEvents : List Event → Type 0
 FormedEvents [] = Unit {0}
 FormedEvents (e ∷ es) = FormedEvent e × FormedEvents es
+
+-- the words are u32
+abbrev pub Words32 : List ℕ → Type 0
+Words32 w = (i : ℕ) → get_or w i 0 < 4294967296

@@ -14,7 +14,7 @@ ghost use Rattle.xml.specs.Passes.{ends_at, told, TurnSays, EndSays};
 use wire::{Command, Refusal, limits};
 
 // How many bytes of text, or why there is none.
-#[derive(Drop)]
+#[derive(Clone, Copy)]
 pub enum Printed {
     Text(usize),
     Refused(Refusal),
@@ -60,13 +60,13 @@ fn ends_at(rows: &[u32], at: usize) -> bool
 
 // What has been measured: the place after it, which past the room counts as one past it, and whether every string of the event so
 // far is legal.
-#[derive(Drop)]
+#[derive(Clone, Copy)]
 pub struct Tally {
     pub at: usize,
     pub legal: bool,
 }
 
-#[derive(Drop)]
+#[derive(Clone, Copy)]
 pub enum Turn {
     Go(Tally),
     Refused(u32),

@@ -15,7 +15,7 @@ use wire::Type;
 // ---- numbers
 
 // A signed number: its sign, and its size.
-#[derive(Drop)]
+#[derive(Clone, Copy)]
 pub struct Signed {
     pub negative: bool,
     pub size: u64,

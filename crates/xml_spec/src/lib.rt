@@ -1,2 +1,2 @@
-// Definitions alone: the XML text of events (specs/).
+// Definitions in specs/ and their laws in proofs/: the XML text of events.
 #![tactic(auto)]
