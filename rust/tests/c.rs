@@ -72,15 +72,31 @@ fn the_header_declares_what_rust_calls() {
     assert!(header.contains("bool abx_is_utf8(const uint8_t *s, size_t s_len);"));
 }
 
-/// The numbers that a block of `wire` names, each by its name.
-fn named<'a>(wire: &'a str, block: &str) -> Vec<(&'a str, &'a str)> {
-    let (_, rest) = wire.split_once(&format!("impl {block} {{")).unwrap();
-    let (consts, _) = rest.split_once("pub fn").unwrap();
-    let constant = |line: &'a str| {
-        let line = line.trim().strip_prefix("pub const ")?;
-        line.trim_end_matches(';').split_once(": u32 = ")
+/// A name as C writes it: `InvalidUtf8` is `INVALID_UTF8`.
+fn upper_case(name: &str) -> String {
+    let mut told = String::new();
+    for (at, letter) in name.char_indices() {
+        if at > 0 && letter.is_uppercase() {
+            told.push('_');
+        }
+        told.push(letter.to_ascii_uppercase());
+    }
+    told
+}
+
+/// The numbers of an enum of `wire`, each by its variant, as `number` tells them.
+fn numbers(wire: &str, of: &str) -> Vec<(String, String)> {
+    let (_, rest) = wire.split_once(&format!("impl {of} {{")).unwrap();
+    let (_, rest) = rest.split_once("pub fn number(self)").unwrap();
+    let (arms, _) = rest.split_once("\n    }\n").unwrap();
+    let arm = |line: &str| {
+        let (variant, number) = line.trim().trim_end_matches(',').split_once(" => ")?;
+        let name = variant.strip_prefix(of)?.strip_prefix("::")?;
+        let name = name.split('(').next()?;
+        number.parse::<u32>().ok()?;
+        Some((upper_case(name), number.to_owned()))
     };
-    consts.lines().filter_map(constant).collect()
+    arms.lines().filter_map(arm).collect()
 }
 
 #[test]
@@ -98,13 +114,14 @@ fn the_header_names_every_number() {
     let told: Vec<_> = header.lines().filter_map(entry).collect();
     let mut wanted = vec![];
     for (block, count) in [("Command", 12), ("Type", 13), ("Refusal", 30)] {
-        let numbers = named(&wire, block);
+        let numbers = numbers(&wire, block);
         assert_eq!(numbers.len(), count, "{block}");
         // a row has no interned strings
-        let in_rows = numbers
-            .iter()
-            .filter(|(name, _)| *name != "STRING_INTERNED");
-        wanted.extend(in_rows.map(|(name, number)| (name.to_string(), number.to_string())));
+        wanted.extend(
+            numbers
+                .into_iter()
+                .filter(|(name, _)| name != "STRING_INTERNED"),
+        );
     }
     assert_eq!(told, wanted);
 }

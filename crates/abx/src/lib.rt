@@ -20,6 +20,8 @@ ghost use Rattle.abx_words.specs.Words.{answered, created_words, NextLeft, strea
 use slice::Place;
 use writer::Writer;
 
+// Names, parameters and answers in words are those that C calls (abx_c), so structs, enums and a Result stand only in the crates below.
+
 // Whether s is well-formed UTF-8.
 pub fn abx_is_utf8(s: &[u8]) -> bool
     ensures { result ≡ well_formed s.now }

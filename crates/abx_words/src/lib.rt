@@ -4,9 +4,11 @@
 
 ghost use Rattle.std.specs.Prelude.{[], ◌∷◌, ◌≡◌};
 ghost use Rattle.abx_words.specs.Words.{answered};
+ghost use Rattle.wire.specs.Answers.{number_of, detail_of};
 
 use wire::Refusal;
 
+// Words that C reads (put's `what`), so they are numbers.
 pub const DONE: usize = 0;
 
 pub const END: usize = 1;
@@ -18,16 +20,13 @@ pub const NEED_MORE: usize = 3;
 pub fn put(answer: &mut [usize], what: usize, a: usize, b: usize, c: usize)
     ensures { answer.new ≡ answered answer.old (what ∷ a ∷ b ∷ c ∷ []) }
 {
-    if 4 <= answer.len() {
-        answer[0] = what;
-        answer[1] = a;
-        answer[2] = b;
-        answer[3] = c;
+    if let Some(words) = answer.first_chunk_mut() {
+        *words = [what, a, b, c];
     }
 }
 
 pub fn put_refused(answer: &mut [usize], r: Refusal)
-    ensures { answer.new ≡ answered answer.old (2 ∷ r.number ∷ r.detail ∷ 0 ∷ []) }
+    ensures { answer.new ≡ answered answer.old (2 ∷ number_of r ∷ detail_of r ∷ 0 ∷ []) }
 {
-    put(answer, REFUSED, r.number as usize, r.detail as usize, 0)
+    put(answer, REFUSED, r.number() as usize, r.detail() as usize, 0)
 }

@@ -1,14 +1,15 @@
 -- The value of an attribute's row, read through the accessor.
-use Rattle.std.specs.Prelude.{true, false, cond, List, ℕ, ◌+◌, ◌*◌, ◌/◌, ◌^◌, ltb, eqb, ℤ, length, get_or, drop}
+use Rattle.std.specs.Prelude.{true, false, cond, Result, Ok, Err, List, ℕ, ◌+◌, ◌*◌, ◌/◌, ◌^◌, ltb, eqb, ℤ, length, get_or, drop}
 use Rattle.std.specs.Int.{w32, w64}
 use Rattle.std.proofs.Common.{to_z}
 use Rattle.wire.specs.Refusal.{not_rows}
+use Rattle.wire.specs.Answers.{number_of, detail_of}
+use Rattle.wire.specs.declared.Refusal.{Refusal}
 use Rattle.wire.specs.Token.{null, string, bytes_hex, bytes_base64, int, int_hex, long, long_hex, float, double, boolean_true, boolean_false, attribute}
 use Rattle.event.specs.Row.{shape}
 use Rattle.event.specs.Words.{attribute_forms}
 use Rattle.event.specs.declared.Shape.{Shape}
 use Rattle.attribute_values.specs.declared.AttributeValue.{AttributeValue}
-use Rattle.attribute_values.specs.declared.Accessed.{Accessed}
 
 -- what a value carries: nothing; a span, by source, start and length; a signed number; a number's bits
 pub data Content : Type 0 where
@@ -60,9 +61,9 @@ attribute_value rows row = cond (ltb row (length rows / 8)) (row_value (drop (ro
 
 abbrev pub value_of : AttributeValue → Answer
 value_of AttributeValue.Null = value null nothing
-value_of (AttributeValue.String source start len) = value string (span source start len)
-value_of (AttributeValue.BytesHex source start len) = value bytes_hex (span source start len)
-value_of (AttributeValue.BytesBase64 source start len) = value bytes_base64 (span source start len)
+value_of (AttributeValue.String s) = value string (span s.source s.start s.len)
+value_of (AttributeValue.BytesHex s) = value bytes_hex (span s.source s.start s.len)
+value_of (AttributeValue.BytesBase64 s) = value bytes_base64 (span s.source s.start s.len)
 value_of (AttributeValue.Int z) = value int (signed z)
 value_of (AttributeValue.IntHex b) = value int_hex (bits b)
 value_of (AttributeValue.Long z) = value long (signed z)
@@ -72,6 +73,6 @@ value_of (AttributeValue.Double b) = value double (bits b)
 value_of (AttributeValue.Boolean true) = value boolean_true nothing
 value_of (AttributeValue.Boolean false) = value boolean_false nothing
 
-abbrev pub accessed_of : Accessed → Answer
-accessed_of (Accessed.Value v) = value_of v
-accessed_of (Accessed.Refused r) = refused r.number r.detail
+abbrev pub accessed_of : Result AttributeValue Refusal → Answer
+accessed_of (Ok v) = value_of v
+accessed_of (Err r) = refused (number_of r) (detail_of r)

@@ -1,24 +1,22 @@
 // The value of an attribute's row.
 #![tactic(auto)]
 
-ghost use Rattle.std.specs.Prelude.{◌≡◌, ◌+◌, ◌*◌, ◌^◌, ◌≤◌, ltb, length, get_or};
-ghost use Rattle.std.specs.Int.{w32, w64};
-ghost use Rattle.std.proofs.Common.{to_z};
-ghost use Rattle.wire.specs.Refusal.{not_rows};
+ghost use Rattle.std.specs.Prelude.{◌≡◌, ◌+◌, ◌*◌, ◌^◌, ltb, get_or};
 ghost use Rattle.event.specs.Row.{shape};
 ghost use Rattle.event.specs.Words.{value_forms};
-ghost use Rattle.attribute_values.specs.Value.{refused, value_by_type, row_value, attribute_value, accessed_of};
+ghost use Rattle.attribute_values.specs.Value.{value_by_type, row_value, attribute_value, accessed_of};
 
 use event::Shape;
+use event::stores::Span;
 use wire::{Command, Refusal, Type};
 
 // An attribute's value. A float is its bits: a number of the language could not hold every NaN.
-#[derive(Clone, Copy)]
+#[derive(Clone, Copy, Debug, PartialEq, Eq)]
 pub enum AttributeValue {
     Null,
-    String { source: u32, start: u32, len: u32 },
-    BytesHex { source: u32, start: u32, len: u32 },
-    BytesBase64 { source: u32, start: u32, len: u32 },
+    String(Span),
+    BytesHex(Span),
+    BytesBase64(Span),
     Int(i32),
     IntHex(u32),
     Long(i64),
@@ -28,121 +26,69 @@ pub enum AttributeValue {
     Boolean(bool),
 }
 
-// What the accessor answers.
-#[derive(Clone, Copy)]
-pub enum Accessed {
-    Value(AttributeValue),
-    Refused(Refusal),
-}
-
-// A signed number from its bits, in two's complement.
-fn int_of(bits: u32) -> i32
-    ensures { result ≡ to_z w32 bits }
-{
-    if bits < 0x8000_0000 {
-        bits as i32
-    } else {
-        !((0xFFFF_FFFF - bits) as i32)
-    }
-}
-
-fn long_of(bits: u64) -> i64
-    ensures { result ≡ to_z w64 bits }
-{
-    if bits < 0x8000_0000_0000_0000 {
-        bits as i64
-    } else {
-        !((0xFFFF_FFFF_FFFF_FFFF - bits) as i64)
-    }
-}
-
 // Two words as one number, the high one first.
 fn joined(high: u32, low: u32) -> u64
     ensures { result ≡ high * 2 ^ 32 + low }
 {
-    (high as u64) * 0x1_0000_0000 + low as u64
+    (u64::from(high) << 32) + u64::from(low)
 }
 
-fn not_a_value() -> Accessed
-    ensures { accessed_of result ≡ refused not_rows 0 }
+// A row's value by its type. Type 3 has become 2 in a row.
+#[tactic(auto, unfolding(crate::specs::Value::value_by_type, crate::specs::Value::value_by_shape, crate::specs::Value::word, crate::specs::Value::pair, event::specs::Row::shape, event::specs::Row::shapes))]
+fn value_by_type(row: &[u32; 8]) -> Result<AttributeValue, Refusal>
+    ensures { accessed_of result ≡ value_by_type (get_or row.now 4 0) (get_or row.now 5 0) (get_or row.now 6 0) (get_or row.now 7 0) }
 {
-    Accessed::Refused(Refusal::new(Refusal::NOT_ROWS))
-}
-
-// A value by its type, from the words value source, a and b.
-fn value_by_type(type_: u32, source: u32, a: u32, b: u32) -> Accessed
-    ensures { accessed_of result ≡ value_by_type type_ source a b }
-{
-    match type_ {
-        Type::NULL => Accessed::Value(AttributeValue::Null),
-        Type::STRING => Accessed::Value(AttributeValue::String {
-            source,
-            start: a,
-            len: b,
-        }),
-        Type::STRING_INTERNED => not_a_value(),
-        Type::BYTES_HEX => Accessed::Value(AttributeValue::BytesHex {
-            source,
-            start: a,
-            len: b,
-        }),
-        Type::BYTES_BASE64 => Accessed::Value(AttributeValue::BytesBase64 {
-            source,
-            start: a,
-            len: b,
-        }),
-        Type::INT => Accessed::Value(AttributeValue::Int(int_of(b))),
-        Type::INT_HEX => Accessed::Value(AttributeValue::IntHex(b)),
-        Type::LONG => Accessed::Value(AttributeValue::Long(long_of(joined(a, b)))),
-        Type::LONG_HEX => Accessed::Value(AttributeValue::LongHex(joined(a, b))),
-        Type::FLOAT => Accessed::Value(AttributeValue::Float(b)),
-        Type::DOUBLE => Accessed::Value(AttributeValue::Double(joined(a, b))),
-        Type::BOOLEAN_TRUE => Accessed::Value(AttributeValue::Boolean(true)),
-        Type::BOOLEAN_FALSE => Accessed::Value(AttributeValue::Boolean(false)),
-        _ => not_a_value(),
-    }
+    let value = match Type::from(row[4]) {
+        Type::Null => AttributeValue::Null,
+        Type::String => AttributeValue::String(Span::of_value(row)),
+        Type::BytesHex => AttributeValue::BytesHex(Span::of_value(row)),
+        Type::BytesBase64 => AttributeValue::BytesBase64(Span::of_value(row)),
+        Type::Int => AttributeValue::Int(row[7].cast_signed()),
+        Type::IntHex => AttributeValue::IntHex(row[7]),
+        Type::Long => AttributeValue::Long(joined(row[6], row[7]).cast_signed()),
+        Type::LongHex => AttributeValue::LongHex(joined(row[6], row[7])),
+        Type::Float => AttributeValue::Float(row[7]),
+        Type::Double => AttributeValue::Double(joined(row[6], row[7])),
+        Type::BooleanTrue => AttributeValue::Boolean(true),
+        Type::BooleanFalse => AttributeValue::Boolean(false),
+        Type::StringInterned | Type::Unknown(_) => return Err(Refusal::NotRows),
+    };
+    Ok(value)
 }
 
 // Whether an attribute's last three words are as its type has them; of a span only the source is looked at.
-fn value_forms(w: &[u32]) -> bool
-    requires { 8 ≤ length w.now }
-    ensures { result ≡ value_forms (ltb (get_or w.now 5 0) 2) w.now (shape (get_or w.now 4 0)) }
+#[tactic(auto, unfolding(event::specs::Words::value_forms, event::specs::Words::zeros))]
+fn value_forms(row: &[u32; 8]) -> bool
+    ensures { result ≡ value_forms (ltb (get_or row.now 5 0) 2) row.now (shape (get_or row.now 4 0)) }
 {
-    let source = w[5];
-    let shape = event::shape_of(w[4]);
-    match shape {
-        Shape::Nothing => (source == 0) & ((w[6] == 0) & (w[7] == 0)),
-        Shape::String => source < 2,
-        Shape::Interned => false,
-        Shape::Blob => source < 2,
-        Shape::Word => (source == 0) & (w[6] == 0),
-        Shape::Pair => source == 0,
-        Shape::Unknown => false,
+    match event::shape_of(row[4]) {
+        Shape::Nothing => row[5..] == [0, 0, 0],
+        Shape::String | Shape::Blob => row[5] < 2,
+        Shape::Word => row[5..7] == [0, 0],
+        Shape::Pair => row[5] == 0,
+        Shape::Interned | Shape::Unknown => false,
     }
 }
 
-// The value of the attribute that the first eight words say.
-fn row_value(w: &[u32]) -> Accessed
-    requires { 8 ≤ length w.now }
-    ensures { accessed_of result ≡ row_value w.now }
+// The value of the attribute that a row says.
+#[tactic(auto, unfolding(crate::specs::Value::row_value, event::specs::Words::attribute_forms))]
+fn row_value(row: &[u32; 8]) -> Result<AttributeValue, Refusal>
+    ensures { accessed_of result ≡ row_value row.now }
 {
-    if w[0] != Command::ATTRIBUTE {
-        return not_a_value();
+    if Command::from(row[0]) == Command::Attribute && row[1] < 2 && value_forms(row) {
+        value_by_type(row)
+    } else {
+        Err(Refusal::NotRows)
     }
-    if (w[1] < 2) & value_forms(w) {
-        return value_by_type(w[4], w[5], w[6], w[7]);
-    }
-    not_a_value()
 }
 
 // The value of the attribute in a row, counted from 0. The row is looked at by itself: a query hands out an attribute's
 // row with no start tag before it, and there are no stores here that its spans could end outside of.
-pub fn attribute_value(rows: &[u32], row: usize) -> Accessed
+#[tactic(auto, unfolding(crate::specs::Value::attribute_value))]
+pub fn attribute_value(rows: &[u32], row: usize) -> Result<AttributeValue, Refusal>
     ensures { accessed_of result ≡ attribute_value rows.now row }
 {
-    if row < rows.len() / 8 {
-        let at = row * 8;
-        return row_value(&rows[at..]);
-    }
-    not_a_value()
+    let (whole, _) = rows.as_chunks::<8>();
+    let words = whole.get(row).ok_or(Refusal::NotRows)?;
+    row_value(words)
 }

@@ -35,10 +35,10 @@ block-copied from to n at k a h c =
 pub all-copied : (from to : List ℕ) (n : ℕ) → length from ≤ n → Copied from to n → to ≡ from
 all-copied from to n h c = sym (take_all n to (omega (arith, c.as_long))) ∙ c.so_far ∙ take_all n from h
 
--- a block that was read, and then lent a place and written there
-pub block-stored : (to from block part : List ℕ) (at k : ℕ) → length to ≡ length from → at + k ≤ length from
-    → block ≡ take (at + k - at) (drop at from) → part ≡ block → put_mid at (at + k - at) to part ≡ sets to at (take k (drop at from))
-block-stored to from block part at k l h e p =
+-- a place that was lent and holds the block
+pub block-stored : (to from part : List ℕ) (at k : ℕ) → length to ≡ length from → at + k ≤ length from
+    → part ≡ take (at + k - at) (drop at from) → put_mid at (at + k - at) to part ≡ sets to at (take k (drop at from))
+block-stored to from part at k l h e =
     let n : at + k - at ≡ k = add-sub_cancel_left at k in
     let b : List ℕ = take k (drop at from) in
-    rw (p, e, n) (part-back to b at k (sym (part_length from at k h)) (omega (arith, part_length from at k h)))
+    rw (e, n) (part-back to b at k (sym (part_length from at k h)) (omega (arith, part_length from at k h)))

@@ -1,12 +1,9 @@
 -- A part that was lent and is back with other bytes in it.
-use mathlib.Core.List.{List, append_assoc}
-use mathlib.Core.Path.{◌≡◌, sym, ◌∙◌}
-use Prim.Native.Nat.{ℕ, ◌+◌, ◌-◌, ◌≤◌}
-use native.Mathlib.Nat.{add-sub_cancel_left}
-use native.Mathlib.Omega.{arith}
+use Rattle.std.proofs.Common.{List, append_assoc, ◌≡◌, sym, ◌∙◌, ℕ, ◌+◌, ◌-◌, ◌≤◌, length, take, drop, arith, length-take-le}
+use Rattle.std.proofs.Math.Nat.{add-sub_cancel_left}
+use Rattle.std.proofs.Math.Seq.{drop-drop}
+use Rattle.std.proofs.lemmas.List.Edits.{sets, sets-eq}
 use borrow.Rule.Slice.PartMut.{put_mid}
-use lib.ListN.{length, take, drop}
-use lib.Seq.{sets, sets-eq, drop-drop, length-take-le}
 use Rattle.byte_copy.specs.Sets.{sets-take}
 
 pub part-back : (l ws : List ℕ) (i k : ℕ) → k ≡ length ws → i + length ws ≤ length l → put_mid i k l ws ≡ sets l i ws

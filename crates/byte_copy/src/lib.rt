@@ -4,42 +4,40 @@
 ghost use Rattle.std.specs.Prelude.{◌≡◌, ◌+◌, ◌≤◌, ◌<◌, length, take, drop};
 ghost use Rattle.std.proofs.lemmas.List.Edits.{sets};
 
+// One by one: so few bytes are copied before `copy_from_slice` has told that the two do not overlap.
 fn copy_bytes(to: &mut [u8], from: &[u8])
     requires { length to.old ≡ length from.now }
     ensures { to.new ≡ from.now }
 {
-    let mut done = 0;
-    while done < from.len() {
-        to[done] = from[done];
-        done += 1;
+    for (i, b) in from.iter().enumerate() {
+        to[i] = *b;
     }
 }
 
-// As many bytes as a block has, from a place on. Read whole before it is written, a block of a known length is one word.
-fn copy_block(to: &mut [u8], from: &[u8], at: usize, block: &mut [u8])
+// N bytes from a place on. Read whole before it is written, a block of a known length is one word.
+fn copy_block<const N: usize>(to: &mut [u8], from: &[u8], at: usize)
     requires to_len { length to.old ≡ length from.now }
-    requires block_in_bounds { at + length block.old ≤ length from.now }
-    ensures { to.new ≡ sets to.old at (take (length block.old) (drop at from.now)) }
+    requires block_in_bounds { at + N ≤ length from.now }
+    ensures { to.new ≡ sets to.old at (take N (drop at from.now)) }
 {
-    let end = at + block.len();
-    copy_bytes(block, &from[at..end]);
-    copy_bytes(&mut to[at..end], block);
+    let mut block = [0u8; N];
+    block.copy_from_slice(&from[at..at + N]);
+    to[at..at + N].copy_from_slice(&block);
 }
 
 // Block by block; the last may overlap the one before it.
-fn copy_blocks(to: &mut [u8], from: &[u8], block: &mut [u8])
+fn copy_blocks<const N: usize>(to: &mut [u8], from: &[u8])
     requires to_len { length to.old ≡ length from.now }
-    requires block_nonzero { (0 < length block.old) × (length block.old ≤ length from.now) }
+    requires block_in_bounds { (0 < N) × (N ≤ length from.now) }
     ensures { to.new ≡ from.now }
 {
-    let size = block.len();
-    let last = from.len() - size;
+    let last = from.len() - N;
     let mut at = 0;
     while at < last {
-        copy_block(to, from, at, block);
-        at += size;
+        copy_block::<N>(to, from, at);
+        at += N;
     }
-    copy_block(to, from, last, block);
+    copy_block::<N>(to, from, last);
 }
 
 // All bytes, by the largest blocks that there are.
@@ -47,20 +45,12 @@ fn copy_all(to: &mut [u8], from: &[u8])
     requires { length to.old ≡ length from.now }
     ensures { to.new ≡ from.now }
 {
-    let len = from.len();
-    if len < 4 {
-        copy_bytes(to, from);
-        return;
+    match from.len() {
+        0..4 => copy_bytes(to, from),
+        4..8 => copy_blocks::<4>(to, from),
+        8..16 => copy_blocks::<8>(to, from),
+        _ => copy_blocks::<16>(to, from),
     }
-    if len < 8 {
-        copy_blocks(to, from, &mut [0u8; 4]);
-        return;
-    }
-    if len < 16 {
-        copy_blocks(to, from, &mut [0u8; 8]);
-        return;
-    }
-    copy_blocks(to, from, &mut [0u8; 16]);
 }
 
 // Stores the bytes of a slice in another from a place on, as many as it has room for.
@@ -71,10 +61,10 @@ pub fn copy(from: &[u8], to: &mut [u8], at: usize)
         return;
     }
     let room = to.len() - at;
+    // Two calls, and not one of `from.len().min(room)` bytes: that was slower, since the length of a literal was no longer known.
     if room < from.len() {
         copy_all(&mut to[at..], &from[..room]);
         return;
     }
-    let end = at + from.len();
-    copy_all(&mut to[at..end], from);
+    copy_all(&mut to[at..at + from.len()], from);
 }

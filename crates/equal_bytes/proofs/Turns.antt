@@ -1,14 +1,8 @@
 -- Turns of `same_bytes` and `same_rest`: what is left to compare from a place on, by single bytes and by words.
-use mathlib.Core.Bool.{Bool, true, false, ◌&&◌, and-true, and-false, and_assoc}
-use mathlib.Core.List.{List, [], ◌∷◌, ◌++◌}
-use mathlib.Core.Path.{◌≡◌, refl, sym, ap, ◌∙◌}
-use Prim.Native.Nat.{ℕ, zero, suc, ◌+◌, ◌*◌, ◌≤◌, ◌<◌}
-use native.Mathlib.Numerals.{add-one}
-use native.Mathlib.Omega.{arith}
-use borrow.Author.Tests.{eq-eqb, ne_eqb}
-use lib.Dec.{eqb}
-use lib.ListN.{length, get_or, take, drop, length-drop, drop_of_length-le, take-append-drop}
-use lib.Seq.{drop-cons, drop-drop, get_or-drop, length-take-le}
+use Rattle.std.proofs.Common.{Bool, true, false, ◌&&◌, List, [], ◌∷◌, ◌++◌, ◌≡◌, refl, sym, ap, ◌∙◌, ℕ, zero, suc, ◌+◌, ◌≤◌, ◌<◌, add-one, arith, eq-eqb, ne_eqb, eqb, length, get_or, take, drop, length-drop, drop-cons, drop_of_length-le}
+use Rattle.std.proofs.Math.Bool.{and-true, and-false, and_assoc}
+use Rattle.std.proofs.lemmas.List.{drop-drop, get_or-drop, length-take-le, take-append-drop}
+use Rattle.std.specs.Int.{from_le_bytes, w64}
 use Rattle.event.specs.Span.{same}
 use Rattle.equal_bytes.specs.Word.{word_of, Bytes}
 use Rattle.equal_bytes.proofs.Laws.{words_same}
@@ -70,16 +64,16 @@ four-on s at h =
       byte-on s (at + 3) (at + 4) (omega arith) (omega arith),
     )
 
--- the sums that the code computes are words
-pub word-four : (s : List ℕ) (at : ℕ) → at + 4 ≤ length s
-    → get_or s at 0 + 256 * (get_or s (at + 1) 0 + 256 * (get_or s (at + 2) 0 + 256 * get_or s (at + 3) 0)) ≡ word_of (take 4 (drop at s))
+-- what the library reads of eight bytes is their word
+pub word-eight : (s : List ℕ) (at : ℕ) → at + 8 ≤ length s
+    → from_le_bytes w64 (get_or s at 0 ∷ get_or s (at + 1) 0 ∷ get_or s (at + 2) 0 ∷ get_or s (at + 3) 0 ∷ get_or s (at + 4) 0 ∷ get_or s (at + 5) 0 ∷ get_or s (at + 6) 0 ∷ get_or s (at + 7) 0 ∷ [])
+    ≡ word_of (take 8 (drop at s))
 unfolding word_of
-word-four s at h = rw (four-on s at h) (omega arith)
-
-pub word-halves : (s : List ℕ) (at : ℕ) → at + 8 ≤ length s
-    → word_of (take 4 (drop at s)) + 4294967296 * word_of (take 4 (drop (at + 4) s)) ≡ word_of (take 8 (drop at s))
-unfolding word_of
-word-halves s at h = rw (four-on s at (omega arith), four-on s (at + 4) (omega arith)) (omega arith)
+word-eight s at h =
+    let five : at + 4 + 1 ≡ at + 5 = omega arith in
+    let six : at + 4 + 2 ≡ at + 6 = omega arith in
+    let seven : at + 4 + 3 ≡ at + 7 = omega arith in
+    rw (four-on s at (omega arith), four-on s (at + 4) (omega arith), five, six, seven) (omega arith)
 
 bytes_take : (n : ℕ) (s : List ℕ) → Bytes s → Bytes (take n s)
 bytes_take zero s h i = omega arith

@@ -5,24 +5,25 @@ ghost use Rattle.std.specs.Prelude.{◌≡◌, ◌+◌, ◌≤◌, length, take,
 ghost use Rattle.event.specs.Span.{same};
 ghost use Rattle.equal_bytes.specs.Word.{word_of};
 
-// Four bytes from a place on as a number, the first lowest.
-fn half_word_at(s: &[u8], at: usize) -> u32
-    requires { at + 4 ≤ length s.now }
-    ensures { result ≡ word_of (take 4 (drop at s.now)) }
-{
-    s[at] as u32 + 256 * (s[at + 1] as u32 + 256 * (s[at + 2] as u32 + 256 * (s[at + 3] as u32)))
-}
-
-// Eight bytes from a place on as a word. The compiler makes one load of it.
+// Eight bytes from a place on as a word, the first lowest. The compiler makes one load of it.
 fn word_at(s: &[u8], at: usize) -> u64
     requires { at + 8 ≤ length s.now }
     ensures { result ≡ word_of (take 8 (drop at s.now)) }
 {
-    half_word_at(s, at) as u64 + 4_294_967_296 * (half_word_at(s, at + 4) as u64)
+    u64::from_le_bytes([
+        s[at],
+        s[at + 1],
+        s[at + 2],
+        s[at + 3],
+        s[at + 4],
+        s[at + 5],
+        s[at + 6],
+        s[at + 7],
+    ])
 }
 
 // Whether two slices of one length hold the same bytes from a place on, byte by byte. Two bytes a turn: most rests are short, and
-// a turn costs as much as a byte.
+// a turn costs as much as a byte. Here and below loops count: slices' `==` takes 1.8 times as long at 8 bytes, `as_chunks` with `zip` 1.1.
 fn same_rest(a: &[u8], b: &[u8], from: usize) -> bool
     requires { (length a.now ≡ length b.now) × (from ≤ length a.now) }
     ensures { result ≡ same (drop from a.now) (drop from b.now) }

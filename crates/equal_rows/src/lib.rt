@@ -1,72 +1,59 @@
 // Which rows of eight words are equal.
 #![tactic(auto)]
 
-ghost use Rattle.std.specs.Prelude.{◌≡◌, ◌≤◌, length, get_or};
-ghost use Rattle.event.specs.Span.{value_in, same};
-ghost use Rattle.event.specs.Row.{row_at, same_value, equal_rows};
+ghost use Rattle.std.specs.Prelude.{◌≡◌, get_or};
+ghost use Rattle.event.specs.Row.{row_at, same_value, same_row, equal_rows};
+ghost use Rattle.event.specs.Span.{value_in};
 
 use equal_bytes::same_bytes;
-use event::{Shape, has_name, shape_of, span};
+use event::stores::{Span, Stores};
+use event::{Shape, has_name, shape_of};
 
-// The bytes of a row's name; none where its kind has no name.
-fn name_of<'a>(first: &'a [u8], second: &'a [u8], w: &[u32]) -> &'a [u8]
-    requires { 8 ≤ length w.now }
-    ensures { result.now ≡ (row_at first.now second.now w.now).name }
-{
-    if has_name(w[0]) {
-        return span(first, second, w[1], w[2], w[3]);
-    }
-    &first[..0]
+// A row beside the stores that its spans name.
+#[derive(Clone, Copy)]
+struct Row<'a> {
+    stores: Stores<'a>,
+    words: &'a [u32; 8],
 }
 
-// Whether the values of two rows, as spans, are the same bytes.
-fn same_spans<'a>(
-    first: &'a [u8],
-    second: &'a [u8],
-    w: &[u32],
-    other_first: &'a [u8],
-    other_second: &'a [u8],
-    v: &[u32],
-) -> bool
-    requires { (8 ≤ length w.now) × (8 ≤ length v.now) }
-    ensures { result ≡ same (value_in first.now second.now w.now) (value_in other_first.now other_second.now v.now) }
-{
-    same_bytes(
-        span(first, second, w[5], w[6], w[7]),
-        span(other_first, other_second, v[5], v[6], v[7]),
-    )
+impl<'a> Row<'a> {
+    // The bytes of its name; none where its kind has no name.
+    #[tactic(auto, unfolding(event::specs::Row::row_at))]
+    fn name(self) -> &'a [u8]
+        ensures { result.now ≡ (row_at self.entry.stores.first.now self.entry.stores.second.now self.entry.words.now).name }
+    {
+        if has_name(self.words[0]) {
+            self.stores.span(Span::of_name(self.words))
+        } else {
+            &self.stores.first[..0]
+        }
+    }
+
+    // The bytes of its value, as a span.
+    fn value(self) -> &'a [u8]
+        ensures { result.now ≡ value_in self.entry.stores.first.now self.entry.stores.second.now self.entry.words.now }
+    {
+        self.stores.span(Span::of_value(self.words))
+    }
 }
 
 // Whether the values of two rows of one type are equal.
-fn same_value<'a>(
-    first: &'a [u8],
-    second: &'a [u8],
-    w: &[u32],
-    other_first: &'a [u8],
-    other_second: &'a [u8],
-    v: &[u32],
-) -> bool
-    requires { (8 ≤ length w.now) × (8 ≤ length v.now) × (get_or w.now 4 0 ≡ get_or v.now 4 0) }
-    ensures { result ≡ same_value (row_at first.now second.now w.now).value (row_at other_first.now other_second.now v.now).value }
+#[tactic(auto, unfolding(event::specs::Row::row_at, event::specs::Row::value_at, event::specs::Row::same_value))]
+fn same_value<'a>(a: Row<'a>, b: Row<'a>) -> bool
+    requires { get_or a.words.now 4 0 ≡ get_or b.words.now 4 0 }
+    ensures { result ≡ same_value (row_at a.entry.stores.first.now a.entry.stores.second.now a.entry.words.now).value (row_at b.entry.stores.first.now b.entry.stores.second.now b.entry.words.now).value }
 {
-    match shape_of(w[4]) {
-        Shape::Nothing => true,
-        Shape::String => same_spans(first, second, w, other_first, other_second, v),
-        Shape::Interned => true,
-        Shape::Blob => same_spans(first, second, w, other_first, other_second, v),
-        Shape::Word => w[7] == v[7],
-        Shape::Pair => {
-            if w[6] != v[6] {
-                return false;
-            }
-            w[7] == v[7]
-        }
-        Shape::Unknown => true,
+    match shape_of(a.words[4]) {
+        Shape::String | Shape::Blob => same_bytes(a.value(), b.value()),
+        Shape::Word => a.words[7] == b.words[7],
+        Shape::Pair => a.words[6] == b.words[6] && a.words[7] == b.words[7],
+        Shape::Nothing | Shape::Interned | Shape::Unknown => true,
     }
 }
 
 // Whether two rows are equal, each with its own stores: the first eight words of w and of v. Fewer words are no row, and
 // equal to none.
+#[tactic(auto, unfolding(event::specs::Row::equal_rows, event::specs::Row::same_row, event::specs::Row::row_at))]
 pub fn same_row<'a>(
     first: &'a [u8],
     second: &'a [u8],
@@ -77,23 +64,22 @@ pub fn same_row<'a>(
 ) -> bool
     ensures { result ≡ equal_rows first.now second.now w.now other_first.now other_second.now v.now }
 {
-    if w.len() < 8 {
+    let (Some(words), Some(other_words)) = (w.first_chunk::<8>(), v.first_chunk::<8>()) else {
         return false;
-    }
-    if v.len() < 8 {
-        return false;
-    }
-    if w[0] != v[0] {
-        return false;
-    }
-    if w[4] != v[4] {
-        return false;
-    }
-    if same_bytes(
-        name_of(first, second, w),
-        name_of(other_first, other_second, v),
-    ) {
-        return same_value(first, second, w, other_first, other_second, v);
-    }
-    false
+    };
+    let a = Row {
+        stores: Stores { first, second },
+        words,
+    };
+    let b = Row {
+        stores: Stores {
+            first: other_first,
+            second: other_second,
+        },
+        words: other_words,
+    };
+    words[0] == other_words[0]
+        && words[4] == other_words[4]
+        && same_bytes(a.name(), b.name())
+        && same_value(a, b)
 }

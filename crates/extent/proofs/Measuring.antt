@@ -1,13 +1,8 @@
 -- The attributes from a place on, and what is measured of them: a turn of the loop for each attribute.
-use mathlib.Core.Bool.{Bool, true, false}
-use mathlib.Core.Option.{Option, none, some}
-use mathlib.Core.List.{List, [], ◌++◌}
-use mathlib.Core.Path.{◌≡◌, sym, ap, ◌∙◌}
-use Prim.Native.Nat.{ℕ, suc, ◌+◌, ◌≤◌, ◌<◌}
-use native.Mathlib.Omega.{arith}
+use Rattle.std.proofs.Common.{Bool, true, false, List, [], ◌++◌, ◌≡◌, ap, ◌∙◌, ℕ, suc, ◌+◌, ◌≤◌, ◌<◌, arith, length, length-append}
+use Rattle.std.proofs.Math.Option.{Option, none, some}
+use Rattle.std.specs.Prelude.{leb}
 use borrow.Author.Tests.{eq-eqb, ne_eqb, le-leb, lt-leb}
-use lib.Dec.{leb}
-use lib.ListN.{length, length-append}
 use Rattle.wire.specs.Token as Token
 use Rattle.event.specs.declared.Shape.{Shape}
 use Rattle.grammar.specs.Reader.{Read, got, short, refused}
@@ -16,12 +11,10 @@ use Rattle.grammar.specs.Fits.{RefFits, NameFits, ValueFits, ItemFits}
 use Rattle.grammar.proofs.Laws.{good-first}
 use Rattle.grammar.specs.Turn.{rest}
 use Rattle.grammar.proofs.Turn.{attribute-fits}
-use Rattle.grammar.specs.Scan.{sound, Outcome, adds, count, lengths, outcome, Measure, measure}
+use Rattle.grammar.specs.Scan.{Outcome, adds, count, lengths, outcome, Measure, measure}
 use Rattle.wire.specs.Limits.{max_store}
 use Rattle.extent.specs.Tally.{RefSmall, NameSmall, ValueSmall, ItemSmall, Bounded, Counts, plus}
 use Rattle.extent.specs.Past.{Unread, ends}
-use Rattle.extent.specs.declared.fields.Pool.{Pool}
-use Rattle.extent.specs.Answers.{sound_of}
 use Rattle.extent.specs.declared.Tally.{Tally}
 use Rattle.grammar.specs.Attributes.{is_attribute}
 use Rattle.grammar.proofs.Attributes.{Turn, turn_end, turn-row, turn-short, turn-stops, left-names}
@@ -34,13 +27,13 @@ abbrev pub as_told : Tally → Outcome → Measure
 as_told t o = record { rows = t.rows; added = t.added; bytes = t.bytes; result = o }
 
 pub measure-more : (finished : Bool) (t r : Tally) (i : Item) (is : Items) → Counts i t r
-    → plus r (measure finished r.pool.names is) ≡ plus t (measure finished t.pool.names (item i is))
+    → plus r (measure finished r.names is) ≡ plus t (measure finished t.names (item i is))
 unfolding plus measure count adds outcome
 measure-more finished t r i is c =
     let rows : r.rows + count is ≡ t.rows + suc (count is) = omega (arith, c.rows_more) in
-    let added : r.added + length (adds r.pool.names is) ≡ t.added + length (adds t.pool.names (item i is)) =
+    let added : r.added + length (adds r.names is) ≡ t.added + length (adds t.names (item i is)) =
     rw (c.names-are, length-append) (omega (arith, c.added_more)) in
-    let bytes : r.bytes + lengths (adds r.pool.names is) ≡ t.bytes + lengths (adds t.pool.names (item i is)) =
+    let bytes : r.bytes + lengths (adds r.names is) ≡ t.bytes + lengths (adds t.names (item i is)) =
     rw (c.names-are, lengths-append) (omega (arith, c.bytes-more)) in
     λ k. record { rows = rows k; added = added k; bytes = bytes k; result = outcome finished is }
 
@@ -56,15 +49,15 @@ module _ (finished : Bool) (t : Tally) where
       let bytes : t.bytes ≡ t.bytes + 0 = omega arith in
       λ k. record { rows = rows k; added = added k; bytes = bytes k; result = o }
 
-  pub measure-whole : (n : ℕ) (e : Bool) → as_told t (outcome finished (whole n e)) ≡ plus t (measure finished t.pool.names (whole n e))
+  pub measure-whole : (n : ℕ) (e : Bool) → as_told t (outcome finished (whole n e)) ≡ plus t (measure finished t.names (whole n e))
   unfolding plus measure count adds lengths
   measure-whole n e = done-is (outcome finished (whole n e))
 
-  pub measure-lacks : (j : ℕ) → as_told t (outcome finished (lacks j)) ≡ plus t (measure finished t.pool.names (lacks j))
+  pub measure-lacks : (j : ℕ) → as_told t (outcome finished (lacks j)) ≡ plus t (measure finished t.names (lacks j))
   unfolding plus measure count adds lengths
   measure-lacks j = done-is (outcome finished (lacks j))
 
-  pub measure-stops : (n d : ℕ) → as_told t (outcome finished (stops n d)) ≡ plus t (measure finished t.pool.names (stops n d))
+  pub measure-stops : (n d : ℕ) → as_told t (outcome finished (stops n d)) ≡ plus t (measure finished t.names (stops n d))
   unfolding plus measure count adds lengths
   measure-stops n d = done-is (outcome finished (stops n d))
 
@@ -92,24 +85,21 @@ module _ (l : ℕ) (h : l ≤ max_store) where
 
 -- ---- the loop: what is measured from a place on, after a tally
 
-module _ (finished : Bool) (s table : List ℕ) where
+module _ (finished : Bool) (s : List ℕ) (S : ℕ → Bool) where
   abbrev pub Remains : Tally → ℕ → Measure
-  Remains t at = plus t (measure finished t.pool.names (rest (sound t.pool.kept table t.pool.stored) s t.pool.names at))
+  Remains t at = plus t (measure finished t.names (rest S s t.names at))
 
-  rest-same : (n k k' d d' m m' : ℕ) → k ≡ k' → d ≡ d' → m ≡ m' → rest (sound k table d) s m n ≡ rest (sound k' table d') s m' n
-  rest-same n k k' d d' m m' e f g = rw (e, f, g)
+  rest-same : (n m m' : ℕ) → m ≡ m' → rest S s m n ≡ rest S s m' n
+  rest-same n m m' g = rw g
 
   module _ (t : Tally) (at : ℕ) where
-    abbrev here : ℕ → Bool
-    here = sound t.pool.kept table t.pool.stored
-
     -- the bounds
-    module _ (h : at ≤ length s) (l : length s ≤ max_store) (i : Item) (n : ℕ) (e : attribute here t.pool.names s at ≡ got i n) where
-      abbrev fine : (at < n) × (n ≤ length s) × ItemFits (length s) t.pool.names i
-      fine = attribute-fits here s t.pool.names at i n h e
+    module _ (h : at ≤ length s) (l : length s ≤ max_store) (i : Item) (n : ℕ) (e : attribute S t.names s at ≡ got i n) where
+      abbrev fine : (at < n) × (n ≤ length s) × ItemFits (length s) t.names i
+      fine = attribute-fits S s t.names at i n h e
 
       pub attribute-small : ItemSmall i
-      attribute-small = fits-small (length s) l t.pool.names i fine.2
+      attribute-small = fits-small (length s) l t.names i fine.2
 
 -- the attributes end before the input does, or with it
 module _ (finished : Bool) (s : List ℕ) (t : Tally) (at : ℕ) where
@@ -120,105 +110,97 @@ module _ (finished : Bool) (s : List ℕ) (t : Tally) (at : ℕ) where
   outside h = rw (le-leb (length s) at h)
 
 -- what is left: these rows, measured after the tally, make M
-pub record Measuring (finished : Bool) (s : List ℕ) (S : ℕ → Bool) (table : List ℕ) (M : Measure) (is : Items) (t : Tally) : Type 0 where
-  pub same-sound : sound_of t.pool table ≡ S
-  pub measured : plus t (measure finished t.pool.names is) ≡ M
+pub record Measuring (finished : Bool) (s : List ℕ) (M : Measure) (is : Items) (t : Tally) : Type 0 where
+  pub measured : plus t (measure finished t.names is) ≡ M
 
-module _ {finished : Bool} {s : List ℕ} {S : ℕ → Bool} {table : List ℕ} {M : Measure} {t : Tally} (at : ℕ) (g : Measuring finished s S table M (rest S s t.pool.names at) t) where
+module _ {finished : Bool} {s : List ℕ} (S : ℕ → Bool) {M : Measure} {t : Tally} (at : ℕ) (g : Measuring finished s M (rest S s t.names at) t) where
   abbrev Left : Items → Type 0
-  Left is = Measuring finished s S table M is t
+  Left is = Measuring finished s M is t
 
   pub measuring-end : is_attribute s at ≡ false → as_told t (outcome finished (whole at (leb (length s) at))) ≡ M
-  measuring-end b = measure-whole finished t at _ ∙ (turn_end Left S s t.pool.names at g b).measured
+  measuring-end b = measure-whole finished t at _ ∙ (turn_end Left S s t.names at g b).measured
 
   module _ (b : is_attribute s at ≡ true) where
-    same : (x : Read Item) → attribute (sound_of t.pool table) t.pool.names s at ≡ x → attribute S t.pool.names s at ≡ x
-    same x e = ap (λ (y : ℕ → Bool). attribute y t.pool.names s at) (sym g.same-sound) ∙ e
+    measuring-short : (j : ℕ) → attribute S t.names s at ≡ short j → as_told t (outcome finished (lacks j)) ≡ M
+    measuring-short j e = measure-lacks finished t j ∙ (turn-short Left S s t.names at g b j e).measured
 
-    measuring-short : (j : ℕ) → attribute (sound_of t.pool table) t.pool.names s at ≡ short j → as_told t (outcome finished (lacks j)) ≡ M
-    measuring-short j e = measure-lacks finished t j ∙ (turn-short Left S s t.pool.names at g b j (same _ e)).measured
+    measuring-stops : (n d : ℕ) → attribute S t.names s at ≡ refused n d → as_told t (outcome finished (stops n d)) ≡ M
+    measuring-stops n d e = measure-stops finished t n d ∙ (turn-stops Left S s t.names at g b n d e).measured
 
-    measuring-stops : (n d : ℕ) → attribute (sound_of t.pool table) t.pool.names s at ≡ refused n d → as_told t (outcome finished (stops n d)) ≡ M
-    measuring-stops n d e = measure-stops finished t n d ∙ (turn-stops Left S s t.pool.names at g b n d (same _ e)).measured
-
-    pub measuring-unread : (x : Read Item) → attribute (sound_of t.pool table) t.pool.names s at ≡ x → Unread x → as_told t (outcome finished (ends x)) ≡ M
+    pub measuring-unread : (x : Read Item) → attribute S t.names s at ≡ x → Unread x → as_told t (outcome finished (ends x)) ≡ M
     measuring-unread (got i n) e u = absurd u
     measuring-unread (short j) e u = measuring-short j e
     measuring-unread (refused n d) e u = measuring-stops n d e
 
-    module _ (l : length s ≤ max_store) (i : Item) (n : ℕ) (e : attribute (sound_of t.pool table) t.pool.names s at ≡ got i n) where
-      pub measuring-turn : Turn Left S s t.pool.names at i n
-      measuring-turn = turn-row Left S s t.pool.names at g b i n (same _ e)
+    module _ (l : length s ≤ max_store) (i : Item) (n : ℕ) (e : attribute S t.names s at ≡ got i n) where
+      pub measuring-turn : Turn Left S s t.names at i n
+      measuring-turn = turn-row Left S s t.names at g b i n e
 
       pub measuring-small : ItemSmall i
-      measuring-small = fits-small (length s) l t.pool.names i measuring-turn.fits
+      measuring-small = fits-small (length s) l t.names i measuring-turn.fits
 
       -- with the row
       module _ (r : Tally) (c : Counts i t r) where
         pub measuring-bounded : Bounded at t → Bounded n r
         measuring-bounded b =
-            let few = item-adds t.pool.names i measuring-small in
+            let few = item-adds t.names i measuring-small in
             record {
               rows-bounded = omega (arith, measuring-turn.moves, b.rows-bounded, c.rows_more);
               added-bounded = omega (arith, few.0, b.added-bounded, c.added_more, c.rows_more);
               bytes-bounded = omega (arith, few.1, b.bytes-bounded, c.bytes-more, c.rows_more);
             }
 
-        pub measuring-next : Measuring finished s S table M (rest S s r.pool.names n) r
+        pub measuring-next : Measuring finished s M (rest S s r.names n) r
         measuring-next =
-            left-names (λ is. Measuring finished s S table M is r) S s n _ _ c.names-are
+            left-names (λ is. Measuring finished s M is r) S s n _ _ c.names-are
             (record {
-              same-sound = ap (λ (x : ℕ). sound x table r.pool.stored) c.kept-stays ∙ ap (λ (x : ℕ). sound t.pool.kept table x) c.stored-stays ∙ g.same-sound;
-              measured = measure-more finished t r i (rest S s (after t.pool.names i) n) c ∙ measuring-turn.left.measured;
+              measured = measure-more finished t r i (rest S s (after t.names i) n) c ∙ measuring-turn.left.measured;
             })
 
 -- ---- the whole event
 
-abbrev pub none_yet : Pool → Tally
-none_yet p = record { pool = p; rows = 0; added = 0; bytes = 0 }
+abbrev pub none_yet : ℕ → Tally
+none_yet names = record { names = names; rows = 0; added = 0; bytes = 0 }
 
-plus_none : (p : Pool) (m : Measure) → plus (none_yet p) m ≡ m
+plus_none : (names : ℕ) (m : Measure) → plus (none_yet names) m ≡ m
 unfolding plus
-plus_none p m =
+plus_none names m =
     let rows : 0 + m.rows ≡ m.rows = omega arith in
     let added : 0 + m.added ≡ m.added = omega arith in
     let bytes : 0 + m.bytes ≡ m.bytes = omega arith in
     λ k. record { rows = rows k; added = added k; bytes = bytes k; result = m.result }
 
-module _ (finished : Bool) (s table : List ℕ) (p : Pool) where
-  abbrev valid : ℕ → Bool
-  valid = sound p.kept table p.stored
-
+module _ (finished : Bool) (s : List ℕ) (S : ℕ → Bool) (names : ℕ) where
   abbrev pub Whole : Measure
-  Whole = measure finished p.names (event valid p.names s)
+  Whole = measure finished names (event S names s)
 
-  whole-short : (j : ℕ) → first valid p.names s 0 ≡ short j → as_told (none_yet p) (outcome finished (lacks j)) ≡ Whole
+  whole-short : (j : ℕ) → first S names s 0 ≡ short j → as_told (none_yet names) (outcome finished (lacks j)) ≡ Whole
   unfolding event
-  whole-short j e = rw e (measure-lacks finished (none_yet p) j ∙ plus_none p _)
+  whole-short j e = rw e (measure-lacks finished (none_yet names) j ∙ plus_none names _)
 
-  whole-stops : (n d : ℕ) → first valid p.names s 0 ≡ refused n d → as_told (none_yet p) (outcome finished (stops n d)) ≡ Whole
+  whole-stops : (n d : ℕ) → first S names s 0 ≡ refused n d → as_told (none_yet names) (outcome finished (stops n d)) ≡ Whole
   unfolding event
-  whole-stops n d e = rw e (measure-stops finished (none_yet p) n d ∙ plus_none p _)
+  whole-stops n d e = rw e (measure-stops finished (none_yet names) n d ∙ plus_none names _)
 
-  pub whole-unread : (x : Read Item) → first valid p.names s 0 ≡ x → Unread x → as_told (none_yet p) (outcome finished (ends x)) ≡ Whole
+  pub whole-unread : (x : Read Item) → first S names s 0 ≡ x → Unread x → as_told (none_yet names) (outcome finished (ends x)) ≡ Whole
   whole-unread (got i n) e u = absurd u
   whole-unread (short j) e u = whole-short j e
   whole-unread (refused n d) e u = whole-stops n d e
 
-  module _ (i : Item) (n : ℕ) (e : first valid p.names s 0 ≡ got i n) (l : length s ≤ max_store) where
-    abbrev first_fine : (0 + 1 ≤ n) × (n ≤ length s) × ItemFits (length s) p.names i × (first valid p.names (s ++ []) 0 ≡ got i n)
-    first_fine = rw e at ((good-first s [] valid p.names).law 0 (omega arith))
+  module _ (i : Item) (n : ℕ) (e : first S names s 0 ≡ got i n) (l : length s ≤ max_store) where
+    abbrev first_fine : (0 + 1 ≤ n) × (n ≤ length s) × ItemFits (length s) names i × (first S names (s ++ []) 0 ≡ got i n)
+    first_fine = rw e at ((good-first s [] S names).law 0 (omega arith))
 
     pub first_small : ItemSmall i
-    first_small = fits-small (length s) l p.names i first_fine.2
+    first_small = fits-small (length s) l names i first_fine.2
 
     pub first-within : n ≤ length s
     first-within = first_fine.1
 
-    module _ (r : Tally) (c : Counts i (none_yet p) r) where
+    module _ (r : Tally) (c : Counts i (none_yet names) r) where
       pub first-bounded : Bounded n r
       first-bounded =
-          let few = item-adds p.names i first_small in
+          let few = item-adds names i first_small in
           record {
             rows-bounded = omega (arith, first_fine.0, c.rows_more);
             added-bounded = omega (arith, few.0, c.added_more, c.rows_more);
@@ -227,12 +209,12 @@ module _ (finished : Bool) (s table : List ℕ) (p : Pool) where
 
       pub whole-single : (i.kind ≡ Token.start_tag → ⊥) → as_told r (outcome finished (whole n false)) ≡ Whole
       unfolding event
-      whole-single k = rw (e, ne_eqb _ _ k) (measure-whole finished r n false ∙ measure-more finished (none_yet p) r i (whole n false) c ∙ plus_none p _)
+      whole-single k = rw (e, ne_eqb _ _ k) (measure-whole finished r n false ∙ measure-more finished (none_yet names) r i (whole n false) c ∙ plus_none names _)
 
-      pub whole-tag : i.kind ≡ Token.start_tag → Remains finished s table r n ≡ Whole
+      pub whole-tag : i.kind ≡ Token.start_tag → Remains finished s S r n ≡ Whole
       unfolding event
       whole-tag k =
           rw (e, eq-eqb _ _ k)
-          (ap (λ (is : Items). plus r (measure finished r.pool.names is)) (rest-same finished s table n _ _ _ _ _ _ c.kept-stays c.stored-stays c.names-are)
-          ∙ measure-more finished (none_yet p) r i (rest valid s (after p.names i) n) c
-          ∙ plus_none p _)
+          (ap (λ (is : Items). plus r (measure finished r.names is)) (rest-same finished s S n _ _ c.names-are)
+          ∙ measure-more finished (none_yet names) r i (rest S s (after names i) n) c
+          ∙ plus_none names _)

@@ -1,12 +1,7 @@
 -- What joins a tally, by the name or value that was read.
-use mathlib.Core.Bool.{cond}
-use mathlib.Core.Option.{Option, none, some}
-use mathlib.Core.Path.{◌≡◌, refl}
-use Prim.Native.Nat.{ℕ, ◌+◌, ◌*◌, ◌≤◌}
-use native.Mathlib.Nat.{add-zero}
-use native.Mathlib.Omega.{arith}
-use lib.Dec.{ltb}
-use lib.ListN.{length, length-append}
+use Rattle.std.proofs.Common.{cond, ◌≡◌, refl, ℕ, ◌+◌, ◌*◌, ◌≤◌, add-zero, arith, length, length-append}
+use Rattle.std.proofs.Math.Option.{Option, none, some}
+use Rattle.std.specs.Prelude.{ltb}
 use Rattle.grammar.specs.Grammar.{Span, Ref, new, known, Value, Item, most, counted_name, counted_value, after}
 use Rattle.grammar.specs.Scan.{adds_ref, adds_name, adds_value, adds_item, lengths}
 use Rattle.grammar.proofs.Choice.{by_test}
@@ -15,9 +10,9 @@ use Rattle.wire.specs.Limits.{max_store}
 use Rattle.extent.specs.Tally.{RefSmall, NameSmall, ValueSmall, ItemSmall, Joins, Counts}
 use Rattle.extent.specs.declared.Tally.{Tally}
 
-pub joins-none : (t : Tally) → Joins 0 0 t.pool.names t t
+pub joins-none : (t : Tally) → Joins 0 0 t.names t t
 joins-none t =
-    record { kept-stays = refl; stored-stays = refl; names-are = refl; rows_stay = refl; added_more = omega arith; bytes-more = omega arith }
+    record { names-are = refl; rows_stay = refl; added_more = omega arith; bytes-more = omega arith }
 
 -- a new name of the span t
 module _ (names : ℕ) (t : Span) where
@@ -30,15 +25,13 @@ module _ (names : ℕ) (t : Span) where
   new-bytes = by_test (ltb names most) (λ e. rw (e, add-zero)) (λ e. rw e)
 
 -- a row's name, then its value, then the row itself
-pub counts : (i : Item) (a b c d : Tally) → Joins (length (adds_name a.pool.names i.name)) (lengths (adds_name a.pool.names i.name)) (counted_name a.pool.names i.name) a b
-    → Joins (length (adds_value b.pool.names i.value)) (lengths (adds_value b.pool.names i.value)) (counted_value b.pool.names i.value) b c
-    → d.pool ≡ c.pool → d.rows ≡ c.rows + 1 → d.added ≡ c.added → d.bytes ≡ c.bytes → Counts i a d
+pub counts : (i : Item) (a b c d : Tally) → Joins (length (adds_name a.names i.name)) (lengths (adds_name a.names i.name)) (counted_name a.names i.name) a b
+    → Joins (length (adds_value b.names i.value)) (lengths (adds_value b.names i.value)) (counted_value b.names i.value) b c
+    → d.names ≡ c.names → d.rows ≡ c.rows + 1 → d.added ≡ c.added → d.bytes ≡ c.bytes → Counts i a d
 unfolding adds_item after
 counts i a b c d j k p r n m =
     let v = rw j.names-are at k in
     record {
-      kept-stays = rw p (cc);
-      stored-stays = rw p (cc);
       names-are = rw p v.names-are;
       rows_more = omega arith;
       added_more = rw length-append (omega (arith, v.added_more));

@@ -1,52 +1,26 @@
--- How far a field goes, and whether it is a new name: 0 where it was not read.
+-- The name in a value or in an event's own row, and how what was not read ends its event.
 use Rattle.std.proofs.Math.Option.{Option, none, some}
 use Rattle.std.specs.Prelude.{◌≡◌, ℕ}
-use Rattle.grammar.specs.Reader.{Read, got, short, refused}
-use Rattle.grammar.specs.Grammar.{Span, Ref, new, known, Value, Item, Items, lacks, stops}
+use Rattle.grammar.specs.Reader.{Read, got, short, refused, next}
+use Rattle.grammar.specs.Grammar.{Ref, Value, Item, Items, lacks, stops}
 use Rattle.extent.specs.Tally.{Counts}
 use Rattle.extent.specs.declared.Tally.{Tally}
-use Rattle.extent.specs.declared.Passed.{Passed}
-use Rattle.extent.specs.declared.past.Past.{Past}
 
-abbrev pub plain : ℕ → Past
-plain n = record { next = n; fresh = 0; bytes = 0 }
+-- something of what was read
+abbrev pub mapped : {A B : Type 0} → (A → B) → Read A → Read B
+mapped f x = next x (λ a n. got (f a) n)
 
-abbrev pub unread : Past
-unread = plain 0
-
-abbrev pub past_ref : Ref → ℕ → Past
-past_ref (new t) n = record { next = n; fresh = 1; bytes = t.len }
-past_ref (known k) n = plain n
-
-abbrev pub past_item : Value → ℕ → Past
-past_item Value.nothing n = plain n
-past_item Value.empty n = plain n
-past_item (Value.span t) n = plain n
-past_item (Value.interned r) n = past_ref r n
-past_item (Value.word w) n = plain n
-past_item (Value.pair a b) n = plain n
+abbrev pub name_in : Value → Option Ref
+name_in Value.nothing = none
+name_in Value.empty = none
+name_in (Value.span t) = none
+name_in (Value.interned r) = some r
+name_in (Value.word w) = none
+name_in (Value.pair a b) = none
 
 -- an event's own row: its value adds no name
-abbrev pub past_row : Option Ref → ℕ → Past
-past_row none n = plain n
-past_row (some r) n = past_ref r n
-
-abbrev pub past_by : {A : Type 0} → (A → ℕ → Past) → Read A → Past
-past_by past (got a n) = past a n
-past_by past (short k) = unread
-past_by past (refused n d) = unread
-
-abbrev pub past_name : Read Ref → Past
-past_name = past_by past_ref
-
-abbrev pub past_span : Read Span → Past
-past_span = past_by (λ t n. plain n)
-
-abbrev pub past_value : Read Value → Past
-past_value = past_by past_item
-
-abbrev pub past_own : Read Item → Past
-past_own = past_by (λ i n. past_row i.name n)
+abbrev pub name_of_row : Item → Option Ref
+name_of_row i = i.name
 
 -- ---- what was not read, and how it ends its event
 
@@ -60,9 +34,9 @@ ends (got a n) = lacks 0
 ends (short k) = lacks k
 ends (refused n d) = stops n d
 
--- ---- an attribute that was read, and the tally with it
+-- ---- an attribute that was read up to a place, and the tally with it
 
-pub record PassedItem (r : Read Item) (tally : Tally) (p : Passed) : Type 0 where
+pub record PassedItem (r : Read Item) (tally after : Tally) (next : ℕ) : Type 0 where
   pub it : Item
-  pub is : r ≡ got it p.next
-  pub counted : Counts it tally p.tally
+  pub is : r ≡ got it next
+  pub counted : Counts it tally after

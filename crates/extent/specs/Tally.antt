@@ -8,9 +8,7 @@ use Rattle.extent.specs.declared.Tally.{Tally}
 
 -- from a to b so many names of so many bytes joined the pool, which has `names` now
 pub record Joins (added bytes names : ℕ) (a b : Tally) : Type 0 where
-  pub kept-stays : b.pool.kept ≡ a.pool.kept
-  pub stored-stays : b.pool.stored ≡ a.pool.stored
-  pub names-are : b.pool.names ≡ names
+  pub names-are : b.names ≡ names
   pub rows_stay : b.rows ≡ a.rows
   pub added_more : b.added ≡ a.added + added
   pub bytes-more : b.bytes ≡ a.bytes + bytes
@@ -48,12 +46,10 @@ pub record Bounded (at : ℕ) (t : Tally) : Type 0 where
 
 -- from a to b a row was read
 pub record Counts (i : Item) (a b : Tally) : Type 0 where
-  pub kept-stays : b.pool.kept ≡ a.pool.kept
-  pub stored-stays : b.pool.stored ≡ a.pool.stored
-  pub names-are : b.pool.names ≡ after a.pool.names i
+  pub names-are : b.names ≡ after a.names i
   pub rows_more : b.rows ≡ a.rows + 1
-  pub added_more : b.added ≡ a.added + length (adds_item a.pool.names i)
-  pub bytes-more : b.bytes ≡ a.bytes + lengths (adds_item a.pool.names i)
+  pub added_more : b.added ≡ a.added + length (adds_item a.names i)
+  pub bytes-more : b.bytes ≡ a.bytes + lengths (adds_item a.names i)
 
 -- what is measured after a tally
 unfoldable pub plus : Tally → Measure → Measure

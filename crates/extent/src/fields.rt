@@ -1,175 +1,116 @@
 // Readers of the wire's fields: lengths, strings, names. A place is counted from the event's first byte, where the slice starts.
-ghost use Rattle.std.specs.Prelude.{◌≡◌, ◌*◌, ◌≤◌, length};
+ghost use Rattle.std.specs.Prelude.{◌≡◌, ◌*◌, ◌≤◌, length, IfOk};
 ghost use Rattle.grammar.specs.Grammar.{u16, string, blob, name};
 ghost use Rattle.grammar.specs.Names.{new_name};
-ghost use Rattle.extent.specs.Answers.{number_of, text_of, name_of, sound_of, pool_grown};
+ghost use Rattle.extent.specs.Answers.{number_of, text_of, name_of, sound_of};
 
+use crate::pool::Pool;
 use wire::Refusal;
 
+// A part of the input.
 #[derive(Clone, Copy)]
-pub enum Number {
-    Read { value: u32, next: usize },
-    Short,
+pub struct Span {
+    pub start: usize,
+    pub len: usize,
 }
 
-fn u16_at(s: &[u8], at: usize) -> Number
+// A name, or an interned string: new bytes of the input, or an entry of the pool.
+#[derive(Clone, Copy)]
+pub enum Name {
+    New(Span),
+    Known(u32),
+}
+
+// Each reader gives a value and the place after it.
+#[tactic(auto, using(std::proofs::lemmas::Bool::Decides::nat_tests), unfolding(grammar::specs::Grammar::u16))]
+fn u16_at(s: &[u8], at: usize) -> Result<(u32, usize), Refusal>
     requires { at ≤ length s.now }
-    ensures { number_of result ≡ u16 s.now at }
+    ensures value { number_of result ≡ u16 s.now at }
+    ensures bound { IfOk result (λ p. p.1 ≤ length s.now) }
 {
     if s.len() - at < 2 {
-        return Number::Short;
+        return Err(Refusal::UnexpectedEof);
     }
-    let value = (s[at] as u32) * 256 + (s[at + 1] as u32);
-    Number::Read {
-        value,
-        next: at + 2,
-    }
+    let value = u16::from_be_bytes([s[at], s[at + 1]]) as u32;
+    Ok((value, at + 2))
 }
 
-#[derive(Clone, Copy)]
-pub enum Text {
-    Span {
-        start: usize,
-        len: usize,
-        next: usize,
-    },
-    Short(u32),
-    Refused(Refusal),
-}
-
-pub(crate) fn string_at(s: &[u8], at: usize) -> Text
+#[tactic(auto, using(std::proofs::lemmas::Bool::Decides::nat_tests), unfolding(grammar::specs::Grammar::string, grammar::specs::Grammar::utf8))]
+pub(crate) fn string_at(s: &[u8], at: usize) -> Result<(Span, usize), Refusal>
     requires { at ≤ length s.now }
     ensures { text_of result ≡ string s.now at }
 {
-    match u16_at(s, at) {
-        Number::Short => Text::Short(Refusal::UNEXPECTED_EOF),
-        Number::Read { value, next } => {
-            let len = value as usize;
-            if s.len() - next < len {
-                return Text::Short(Refusal::STRING_SHORT);
-            }
-            let end = next + len;
-            if utf8::is_utf8(&s[next..end]) {
-                return Text::Span {
-                    start: next,
-                    len,
-                    next: end,
-                };
-            }
-            Text::Refused(Refusal::new(Refusal::INVALID_UTF8))
-        }
+    let (value, start) = u16_at(s, at)?;
+    let len = value as usize;
+    if s.len() - start < len {
+        return Err(Refusal::StringShort);
     }
+    let end = start + len;
+    if utf8::is_utf8(&s[start..end]) {
+        return Ok((Span { start, len }, end));
+    }
+    Err(Refusal::InvalidUtf8)
 }
 
 // A blob: bytes of any kind.
-pub(crate) fn blob_at(s: &[u8], at: usize) -> Text
+#[tactic(auto, using(std::proofs::lemmas::Bool::Decides::nat_tests), unfolding(grammar::specs::Grammar::blob, grammar::specs::Grammar::raw))]
+pub(crate) fn blob_at(s: &[u8], at: usize) -> Result<(Span, usize), Refusal>
     requires { at ≤ length s.now }
     ensures { text_of result ≡ blob s.now at }
 {
-    match u16_at(s, at) {
-        Number::Short => Text::Short(Refusal::UNEXPECTED_EOF),
-        Number::Read { value, next } => {
-            let len = value as usize;
-            if s.len() - next < len {
-                return Text::Short(Refusal::BYTES_SHORT);
-            }
-            Text::Span {
-                start: next,
-                len,
-                next: next + len,
-            }
-        }
+    let (value, start) = u16_at(s, at)?;
+    let len = value as usize;
+    if s.len() - start < len {
+        return Err(Refusal::BytesShort);
     }
-}
-
-#[derive(Clone, Copy)]
-pub enum Name {
-    New {
-        start: usize,
-        len: usize,
-        next: usize,
-    },
-    Known {
-        index: u32,
-        next: usize,
-    },
-    Short(u32),
-    Refused(Refusal),
-}
-
-// What is known of the pool: so many entries of its table are names, whose spans must end in a store of so many bytes; with those
-// that are new in this event there are so many names.
-#[derive(Clone, Copy)]
-pub struct Pool {
-    pub kept: usize,
-    pub stored: usize,
-    pub names: usize,
+    Ok((Span { start, len }, start + len))
 }
 
 // Whether the span of entry i lies in its store.
-fn is_sound(table: &[u32], pool: Pool, i: usize) -> bool
-    requires { 2 * pool.kept ≤ length table.now }
-    ensures { result ≡ sound_of pool table.now i }
+#[tactic(auto, using(std::proofs::lemmas::Bool::Decides::nat_tests), unfolding(grammar::specs::Scan::sound))]
+fn is_sound(pool: &Pool, i: usize) -> bool
+    ensures { result ≡ sound_of pool.now i }
 {
     let kept = pool.kept;
     if i < kept {
-        let start = table[2 * i] as usize;
-        let len = table[2 * i + 1] as usize;
+        let start = pool.table[2 * i] as usize;
+        let len = pool.table[2 * i + 1] as usize;
         return start + len <= pool.stored;
     }
     true
 }
 
-// A name, or an interned string: a new string, or the index of a pool entry.
-pub(crate) fn name_at(s: &[u8], at: usize, table: &[u32], pool: Pool) -> Name
-    requires at_in_bounds { at ≤ length s.now }
-    requires kept_in_bounds { 2 * pool.kept ≤ length table.now }
-    ensures { name_of result ≡ name (sound_of pool table.now) pool.names s.now at }
+// A name, or an interned string: a new string, or the index of an entry of the pool, which has so many names with those that are new in
+// this event.
+#[tactic(auto, using(std::proofs::lemmas::Bool::Decides::nat_tests), unfolding(grammar::specs::Grammar::name, grammar::specs::Names::new_name))]
+pub(crate) fn name_at(
+    s: &[u8],
+    at: usize,
+    pool: &Pool,
+    names: usize,
+) -> Result<(Name, usize), Refusal>
+    requires { at ≤ length s.now }
+    ensures { name_of result ≡ name (sound_of pool.now) names s.now at }
 {
-    match u16_at(s, at) {
-        Number::Short => Name::Short(Refusal::UNEXPECTED_EOF),
-        Number::Read { value, next } => {
-            if value == wire::INTERNED_NEW {
-                return new_name_at(s, next);
-            }
-            let names = pool.names;
-            if names <= value as usize {
-                return Name::Refused(Refusal {
-                    number: Refusal::BAD_INTERNED_INDEX,
-                    detail: value,
-                });
-            }
-            if is_sound(table, pool, value as usize) {
-                return Name::Known { index: value, next };
-            }
-            Name::Refused(Refusal::new(Refusal::BAD_STATE))
-        }
+    let (index, next) = u16_at(s, at)?;
+    if index == wire::INTERNED_NEW {
+        return new_name_at(s, next);
     }
+    if names <= index as usize {
+        return Err(Refusal::BadInternedIndex(index));
+    }
+    if is_sound(pool, index as usize) {
+        return Ok((Name::Known(index), next));
+    }
+    Err(Refusal::BadState)
 }
 
 // The string of a new name.
-fn new_name_at(s: &[u8], at: usize) -> Name
+#[tactic(auto, using(std::proofs::lemmas::Bool::Decides::nat_tests), unfolding(grammar::specs::Names::new_name))]
+fn new_name_at(s: &[u8], at: usize) -> Result<(Name, usize), Refusal>
     requires { at ≤ length s.now }
     ensures { name_of result ≡ new_name s.now at }
 {
-    match string_at(s, at) {
-        Text::Span { start, len, next } => Name::New { start, len, next },
-        Text::Short(k) => Name::Short(k),
-        Text::Refused(r) => Name::Refused(r),
-    }
-}
-
-// The pool with one new name more, while there is room for it.
-pub(crate) fn grown(pool: Pool) -> Pool
-    ensures { result ≡ pool_grown pool }
-{
-    let names = pool.names;
-    if names < wire::INTERNED_NEW as usize {
-        return Pool {
-            kept: pool.kept,
-            stored: pool.stored,
-            names: names + 1,
-        };
-    }
-    pool
+    let (text, next) = string_at(s, at)?;
+    Ok((Name::New(text), next))
 }

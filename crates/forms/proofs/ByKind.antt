@@ -1,15 +1,8 @@
 -- Which words form a row, by its kind.
-use mathlib.Core.Bool.{Bool, false, ◌&&◌}
-use mathlib.Core.List.{List}
-use mathlib.Core.Path.{◌≡◌}
-use Prim.Native.Nat.{ℕ, ◌≤◌, ◌<◌}
-use native.Mathlib.Omega.{arith}
-use borrow.Author.Tests.{lt-ltb, le-ltb, le-leb, lt-leb, ne_eqb}
-use lib.Dec.{eqb}
-use lib.ListN.{get_or}
-use Rattle.wire.specs.Token.{start_tag, text, doc_decl, attribute, string}
+use Rattle.std.proofs.Common.{Bool, List, ◌≡◌, ℕ, ◌&&◌, ◌≤◌, ◌<◌, eqb, get_or, arith, lt-ltb, le-ltb, le-leb}
+use Rattle.wire.specs.Token.{start_tag, text, doc_decl, string}
 use Rattle.event.specs.Span.{span_in}
-use Rattle.event.specs.Words.{zeros, attribute_forms, row_forms, row_forms_in}
+use Rattle.event.specs.Words.{zeros, row_forms, row_forms_in}
 
 module _ (first second : List ℕ) (inside : Bool) (w : List ℕ) where
   abbrev kind : ℕ
@@ -24,10 +17,6 @@ module _ (first second : List ℕ) (inside : Bool) (w : List ℕ) where
   abbrev Forms : Bool
   Forms = row_forms_in first second inside w
 
-  pub attribute-forms : kind ≡ attribute → (inside && attribute_forms named valued w) ≡ Forms
-  unfolding row_forms_in row_forms
-  attribute-forms e = rw e
-
   pub document-forms : kind < start_tag → zeros w 1 7 ≡ Forms
   unfolding row_forms_in row_forms
   document-forms h = rw (lt-ltb kind start_tag h)
@@ -39,7 +28,3 @@ module _ (first second : List ℕ) (inside : Bool) (w : List ℕ) where
   pub text-forms : text ≤ kind → kind ≤ doc_decl → (eqb (get_or w 4 0) string && (valued && zeros w 1 3)) ≡ Forms
   unfolding row_forms_in row_forms
   text-forms l h = rw (le-ltb kind start_tag (omega arith), le-ltb kind text l, le-leb kind doc_decl h)
-
-  pub other-forms : doc_decl < kind → (kind ≡ attribute → ⊥) → false ≡ Forms
-  unfolding row_forms_in row_forms
-  other-forms l not = rw (le-ltb kind start_tag (omega arith), le-ltb kind text (omega arith), lt-leb kind doc_decl l, ne_eqb kind attribute not)

@@ -1,5 +1,3 @@
-mod Choices
-mod Turns
+mod Rows
 mod Shapes
 mod ByKind
-mod OneRow

@@ -1,5 +1,5 @@
 // The header of a document.
-#![tactic(auto)]
+#![tactic(auto, unfolding(wire::specs::Header::header, wire::specs::Header::u32_at))]
 
 ghost use Rattle.std.specs.Prelude.{◌≡◌};
 ghost use Rattle.wire.specs.Header.{header};
@@ -10,27 +10,17 @@ use wire::Refusal;
 // Every document begins with these four bytes.
 pub const MAGIC: [u8; 4] = [0x41, 0x42, 0x58, 0x00];
 
-// Whether a document starts as it must.
-#[derive(Clone, Copy)]
-pub enum Header {
-    Passed,
-    Refused(Refusal),
-}
-
-// The header of the document that input is.
-pub fn check_magic(input: &[u8]) -> Header
+// Whether the document that input is starts as it must.
+pub fn check_magic(input: &[u8]) -> Result<(), Refusal>
     ensures { header_of result ≡ header input.now }
 {
     if input.len() < 4 {
-        return Header::Refused(Refusal::new(Refusal::HEADER_SHORT));
+        return Err(Refusal::HeaderShort);
     }
     let actual = wire::be32(input[0], input[1], input[2], input[3]);
-    if actual == wire::be32(MAGIC[0], MAGIC[1], MAGIC[2], MAGIC[3]) {
-        Header::Passed
+    if actual == u32::from_be_bytes(MAGIC) {
+        Ok(())
     } else {
-        Header::Refused(Refusal {
-            number: Refusal::INVALID_MAGIC,
-            detail: actual,
-        })
+        Err(Refusal::InvalidMagic(actual))
     }
 }

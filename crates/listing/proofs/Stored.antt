@@ -8,20 +8,20 @@ use borrow.Author.Tests.{le-leb, lt-leb}
 use lib.ListN.{length, drop}
 use lib.Seq.{sets-eq}
 use Rattle.wire.specs.Refusal.{output_full}
-use Rattle.event.specs.Row.{has_name}
 use Rattle.text.specs.Put.{Put}
 use Rattle.text.specs.PutLaws.{put_both, after-within}
-use Rattle.listing.specs.Text.{newline, space, decimal, field}
-use Rattle.listing.specs.Line.{wrote, refused, type_text, columns, end_word, end_line, refused_word, refused_line, put}
+use Rattle.listing.specs.Text.{newline, space, decimal}
+use Rattle.listing.specs.Columns.{columns_shown}
+use Rattle.listing.specs.Line.{wrote, refused, type_text, end_word, end_line, refused_word, refused_line, put}
 
 -- a text after a space
 pub spaced : (o o₁ o₂ : List ℕ) (at p q : ℕ) (a b : List ℕ) → Put o at (space ∷ []) o₁ p → Put o₁ p a o₂ q → b ≡ a → Put o at (space ∷ b) o₂ q
 spaced o o₁ o₂ at p q a b s t e = rw e (put_both o at (space ∷ []) a o₁ o₂ p q s t)
 
 pub columns-put : (kind type : ℕ) (name value o o₁ o₂ o₃ o₄ o₅ : List ℕ) (p q r s t : ℕ) → Put o 0 (decimal kind) o₁ p
-    → Put o₁ p (space ∷ field (has_name kind) name) o₂ q → Put o₂ q (space ∷ type_text kind type) o₃ r → Put o₃ r (space ∷ value) o₄ s
-    → Put o₄ s (newline ∷ []) o₅ t → Put o 0 (columns kind name type value) o₅ t
-unfolding columns
+    → Put o₁ p (space ∷ name) o₂ q → Put o₂ q (space ∷ type_text kind type) o₃ r → Put o₃ r (space ∷ value) o₄ s
+    → Put o₄ s (newline ∷ []) o₅ t → Put o 0 (columns_shown kind name type value) o₅ t
+unfolding columns_shown
 columns-put kind type name value o o₁ o₂ o₃ o₄ o₅ p q r s t a b c d e =
     put_both o 0 _ _ o₄ o₅ s t (put_both o 0 _ _ o₃ o₄ r s (put_both o 0 _ _ o₂ o₃ q r (put_both o 0 _ _ o₁ o₂ p q a b) c) d) e
 
@@ -49,7 +49,6 @@ put-fits text out out' n h p =
     let whole : n ≡ length text = p.place ∙ after-within (length out) 0 (length text) (omega arith) ∙ zero-add (length text) in
     rw (le-leb (length text) (length out) h, whole, all)
 
-pub put-short : (text out : List ℕ) (number detail : ℕ) → length out < length text → number ≡ output_full → detail ≡ 0
-    → record { reply = refused number detail; out = out } ≡ put text out
+pub put-short : (text out : List ℕ) → length out < length text → record { reply = refused output_full 0; out = out } ≡ put text out
 unfolding put
-put-short text out number detail h e d = rw (lt-leb (length text) (length out) h, e, d)
+put-short text out h = rw (lt-leb (length text) (length out) h)

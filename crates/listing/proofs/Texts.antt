@@ -1,14 +1,7 @@
 -- Laws of the listing's text.
-use mathlib.Core.Bool.{Bool, true, false, cond}
-use mathlib.Core.List.{List, [], ◌∷◌, ◌++◌}
-use mathlib.Core.Logic.{◌≢◌}
-use mathlib.Core.Path.{◌≡◌, refl, sym, ap, ◌∙◌}
-use Prim.Native.Nat.{ℕ, ◌+◌, ◌*◌, ◌-◌, ◌/◌, ◌%◌, ◌≤◌, ◌<◌}
-use native.Mathlib.Nat.{not-suc-le-zero, suc-ne-zero}
-use native.Mathlib.Omega.{arith}
-use borrow.Author.Tests.{eq-eqb, ne_eqb}
-use lib.ListN.{length, get_or, take, drop, length-append, length-drop}
-use lib.Seq.{take_all}
+use Rattle.std.proofs.Common.{Bool, true, false, List, [], ◌∷◌, ◌++◌, ◌≡◌, ◌≢◌, ◌⊎◌, inl, inr, refl, sym, ap, ◌∙◌, ℕ, ◌+◌, ◌-◌, ◌/◌, ◌%◌, ◌≤◌, ◌<◌, cond, arith, eq-eqb, ne_eqb, eqb-true, eqb, suc, length, get_or, take, drop, length-append, length-drop, take_all, Option, Some, None, Bor}
+use native.Mathlib.Nat.{suc-ne-zero}
+use Rattle.std.proofs.lemmas.Bool.{false≢true}
 use Rattle.wire.specs.Header.{be32}
 use Rattle.wire.specs.Token.{attribute}
 use Rattle.event.specs.Span.{span}
@@ -18,6 +11,7 @@ use Rattle.text.specs.Numerals.{digit, hex}
 use Rattle.text.specs.Laws.{numeral-one, numeral-more, hex-length}
 use Rattle.listing.specs.Text.{newline, space, dash, equals, decimal, field}
 use Rattle.listing.specs.Line.{type_text, value_text, columns, line, end_word, end_line, refused_word, refused_line, Left, put}
+use Rattle.listing.specs.Columns.{shown, IsShort, columns_shown}
 
 -- how many digits there are, where they end a list of 20
 pub digits_long : (bytes : List ℕ) (start n : ℕ) → drop start bytes ≡ decimal n → length bytes ≡ 20 → 20 - start ≡ length (decimal n)
@@ -31,32 +25,36 @@ two_digits n h k = numeral-more 10 n (omega arith) h ∙ ap (λ (t : List ℕ). 
 
 -- ---- names and values
 
-pub field-absent : (b : Bool) (s : List ℕ) → b ≡ false → field b s ≡ dash ∷ []
+pub shown-none : (f : Option (Bor (List ℕ))) → f ≡ None → shown f ≡ dash ∷ []
 unfolding field
-field-absent b s e = rw e
+shown-none f e = rw e
 
-empty : (s : List ℕ) → length s ≡ 0 → field true s ≡ equals ∷ []
+empty : (s : List ℕ) → true ≡ eqb (length s) 0 → field true s ≡ equals ∷ []
 unfolding field
 empty [] h = refl
-empty (b ∷ s) h = absurd (suc-ne-zero (length s) h)
+empty (b ∷ s) h = absurd (suc-ne-zero (length s) (eqb-true (suc (length s)) 0 (sym h)))
 
-pub field-empty : (b : Bool) (s : List ℕ) → b ≡ true → length s ≡ 0 → field b s ≡ equals ∷ []
-field-empty b s e h = rw e (empty s h)
+pub shown-empty : (f : Option (Bor (List ℕ))) (s : Bor (List ℕ)) → f ≡ Some s → true ≡ eqb (length s.now) 0 → shown f ≡ equals ∷ []
+shown-empty f s e h = rw e (empty s.now h)
 
-filled : (s : List ℕ) → 0 < length s → field true s ≡ hex s
+filled : (s : List ℕ) → false ≡ eqb (length s) 0 → field true s ≡ hex s
 unfolding field
-filled [] h = absurd (not-suc-le-zero h)
+filled [] h = absurd (false≢true h)
 filled (b ∷ s) h = refl
 
-pub field-hex : (b : Bool) (s : List ℕ) → b ≡ true → 0 < length s → field b s ≡ hex s
-field-hex b s e h = rw e (filled s h)
+pub shown-hex : (f : Option (Bor (List ℕ))) (s : Bor (List ℕ)) → f ≡ Some s → false ≡ eqb (length s.now) 0 → shown f ≡ hex s.now
+shown-hex f s e h = rw e (filled s.now h)
+
+short : (s : List ℕ) → length s < 4294967296 → length (field true s) < 8589934592
+unfolding field
+short [] h = omega arith
+short (b ∷ s) h = omega (arith, hex-length (b ∷ s))
 
 -- a name or value of few bytes is a short column
-pub field-short : (b : Bool) (s : List ℕ) → length (field b s) ≤ length s * 2 + 1
+pub shown-short : (f : Option (Bor (List ℕ))) → IsShort f → length (shown f) < 8589934592
 unfolding field
-field-short false s = omega arith
-field-short true [] = omega arith
-field-short true (b ∷ s) = omega (arith, hex-length (b ∷ s))
+shown-short None h = omega arith
+shown-short (Some s) h = short s.now h
 
 -- ---- the last lines
 
@@ -84,48 +82,42 @@ named true s = refl
 named false s = refl
 
 module _ (first second w : List ℕ) where
-  abbrev pub value_here : List ℕ
-  value_here = value_text (value_at first second (get_or w 5 0) (get_or w 6 0) (get_or w 7 0) (shape (get_or w 4 0)))
-
-  -- the line of a row, from its words
-  pub line-is : line (row_at first second w)
-      ≡ columns (get_or w 0 0) (span first second (get_or w 1 0) (get_or w 2 0) (get_or w 3 0)) (get_or w 4 0) value_here
-  unfolding line row_at columns
+  -- the line of a row, by its name and value as they are shown
+  line-is : line (row_at first second w)
+      ≡ columns_shown (get_or w 0 0) (field (has_name (get_or w 0 0)) (span first second (get_or w 1 0) (get_or w 2 0) (get_or w 3 0))) (get_or w 4 0)
+      (value_text (value_at first second (get_or w 5 0) (get_or w 6 0) (get_or w 7 0) (shape (get_or w 4 0))))
+  unfolding line row_at columns columns_shown
   line-is = rw (named (has_name (get_or w 0 0)) (span first second (get_or w 1 0) (get_or w 2 0) (get_or w 3 0)))
 
-  pub row_put : (b : Bool) (name value out : List ℕ) (x : Left) → x ≡ put (columns (get_or w 0 0) name (get_or w 4 0) (field b value)) out
-      → name ≡ span first second (get_or w 1 0) (get_or w 2 0) (get_or w 3 0) → field b value ≡ value_here → x ≡ put (line (row_at first second w)) out
-  row_put b name value out x e n v = rw line-is (e ∙ rw (n, v))
+  pub row_put : (name value out : List ℕ) (x : Left) → x ≡ put (columns_shown (get_or w 0 0) name (get_or w 4 0) value) out
+      → name ≡ field (has_name (get_or w 0 0)) (span first second (get_or w 1 0) (get_or w 2 0) (get_or w 3 0))
+      → value ≡ value_text (value_at first second (get_or w 5 0) (get_or w 6 0) (get_or w 7 0) (shape (get_or w 4 0)))
+      → x ≡ put (line (row_at first second w)) out
+  row_put name value out x e n v = rw line-is (e ∙ rw (n, v))
 
-  pub value-nothing : (v : List ℕ) → shape (get_or w 4 0) ≡ Shape.Nothing → field false v ≡ value_here
-  unfolding field value_text value_at
-  value-nothing v e = rw e
+  -- a value by the shape of its type
+  abbrev value_here : List ℕ
+  value_here = value_text (value_at first second (get_or w 5 0) (get_or w 6 0) (get_or w 7 0) (shape (get_or w 4 0)))
 
-  pub value-interned : (v : List ℕ) → shape (get_or w 4 0) ≡ Shape.Interned → field false v ≡ value_here
-  unfolding field value_text value_at
-  value-interned v e = rw e
-
-  pub value-unknown : (v : List ℕ) → shape (get_or w 4 0) ≡ Shape.Unknown → field false v ≡ value_here
-  unfolding field value_text value_at
-  value-unknown v e = rw e
-
-  pub value-string : (v : List ℕ) → shape (get_or w 4 0) ≡ Shape.String → v ≡ span first second (get_or w 5 0) (get_or w 6 0) (get_or w 7 0)
-      → field true v ≡ value_here
+  pub value-bytes : (h : Shape) → (h ≡ Shape.String) ⊎ (h ≡ Shape.Blob) → h ≡ shape (get_or w 4 0)
+      → field true (span first second (get_or w 5 0) (get_or w 6 0) (get_or w 7 0)) ≡ value_here
   unfolding value_text value_at
-  value-string v e s = rw (e, s)
+  value-bytes h (inl i) e = rw (← e, i)
+  value-bytes h (inr i) e = rw (← e, i)
 
-  pub value-blob : (v : List ℕ) → shape (get_or w 4 0) ≡ Shape.Blob → v ≡ span first second (get_or w 5 0) (get_or w 6 0) (get_or w 7 0)
-      → field true v ≡ value_here
+  pub value-word : (h : Shape) → h ≡ Shape.Word → h ≡ shape (get_or w 4 0) → field true (be32 (get_or w 7 0)) ≡ value_here
   unfolding value_text value_at
-  value-blob v e s = rw (e, s)
+  value-word h i e = rw (← e, i)
 
-  pub value-word : (v : List ℕ) → shape (get_or w 4 0) ≡ Shape.Word → v ≡ be32 (get_or w 7 0) → field true v ≡ value_here
+  pub value-pair : (h : Shape) → h ≡ Shape.Pair → h ≡ shape (get_or w 4 0) → field true (be32 (get_or w 6 0) ++ be32 (get_or w 7 0)) ≡ value_here
   unfolding value_text value_at
-  value-word v e s = rw (e, s)
+  value-pair h i e = rw (← e, i)
 
-  pub value-pair : (v : List ℕ) → shape (get_or w 4 0) ≡ Shape.Pair → v ≡ be32 (get_or w 6 0) ++ be32 (get_or w 7 0) → field true v ≡ value_here
-  unfolding value_text value_at
-  value-pair v e s = rw (e, s)
+  pub value-none : (h : Shape) → (h ≡ Shape.Nothing) ⊎ (h ≡ Shape.Interned) ⊎ (h ≡ Shape.Unknown) → h ≡ shape (get_or w 4 0) → field false [] ≡ value_here
+  unfolding value_text value_at field
+  value-none h (inl i) e = rw (← e, i)
+  value-none h (inr (inl i)) e = rw (← e, i)
+  value-none h (inr (inr i)) e = rw (← e, i)
 
 pub type-shown : (kind type : ℕ) → kind ≡ attribute → type_text kind type ≡ decimal type
 unfolding type_text
@@ -136,14 +128,13 @@ unfolding type_text
 type-hidden kind type e = rw (ne_eqb kind attribute e)
 
 pub columns-length : (kind type : ℕ) (name value : List ℕ)
-    → length (columns kind name type value)
-    ≡ length (decimal kind) + length (field (has_name kind) name) + length (type_text kind type) + length value + 4
-unfolding columns
+    → length (columns_shown kind name type value) ≡ length (decimal kind) + length name + length (type_text kind type) + length value + 4
+unfolding columns_shown
 columns-length kind type name value =
     omega (
       arith,
-      length-append (decimal kind ++ (space ∷ field (has_name kind) name) ++ (space ∷ type_text kind type) ++ (space ∷ value)) (newline ∷ []),
-      length-append (decimal kind ++ (space ∷ field (has_name kind) name) ++ (space ∷ type_text kind type)) (space ∷ value),
-      length-append (decimal kind ++ (space ∷ field (has_name kind) name)) (space ∷ type_text kind type),
-      length-append (decimal kind) (space ∷ field (has_name kind) name),
+      length-append (decimal kind ++ (space ∷ name) ++ (space ∷ type_text kind type) ++ (space ∷ value)) (newline ∷ []),
+      length-append (decimal kind ++ (space ∷ name) ++ (space ∷ type_text kind type)) (space ∷ value),
+      length-append (decimal kind ++ (space ∷ name)) (space ∷ type_text kind type),
+      length-append (decimal kind) (space ∷ name),
     )

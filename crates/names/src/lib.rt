@@ -7,14 +7,16 @@ ghost use Rattle.event.specs.Span.{same};
 ghost use Rattle.names.specs.Hash.{mix, few_bytes, many_bytes, hash_of};
 
 // Four bytes from a place on as a number.
+#[tactic(auto, unfolding(wire::specs::Header::u32_at))]
 fn four_at(s: &[u8], at: usize) -> u32
     requires { at + 4 ≤ length s.now }
     ensures { result ≡ u32_at s.now at }
 {
-    wire::be32(s[at], s[at + 1], s[at + 2], s[at + 3])
+    u32::from_be_bytes([s[at], s[at + 1], s[at + 2], s[at + 3]])
 }
 
 // A hash with two numbers more. Every product is below 2^64.
+#[tactic(auto, unfolding(crate::specs::Hash::mix))]
 fn mix(hash: u64, a: u32, b: u32) -> u64
     ensures { result ≡ mix hash a b }
 {
@@ -24,6 +26,7 @@ fn mix(hash: u64, a: u32, b: u32) -> u64
 }
 
 // All bytes of a name of fewer than four, some of them twice.
+#[tactic(auto, unfolding(crate::specs::Hash::few_bytes))]
 fn few_bytes(name: &[u8]) -> u32
     requires { length name.now < 4 }
     ensures { result ≡ few_bytes name.now }
@@ -43,15 +46,14 @@ fn many_bytes(name: &[u8]) -> u64
     let len = name.len();
     let turns = (len - 1) / 8;
     let mut hash = len as u64;
-    let mut k = 0;
-    while k < turns {
+    for k in 0..turns {
         hash = mix(hash, four_at(name, 8 * k), four_at(name, 8 * k + 4));
-        k += 1;
     }
     mix(hash, four_at(name, len - 8), four_at(name, len - 4))
 }
 
 // A name's hash: by all its bytes, so that names which differ in a few anywhere have different ones.
+#[tactic(auto, unfolding(crate::specs::Hash::hash_of))]
 pub fn hash(name: &[u8]) -> u64
     ensures { result ≡ hash_of name.now }
 {
@@ -73,10 +75,8 @@ pub fn same_name(a: &[u8], b: &[u8]) -> bool
     if len != b.len() {
         return false;
     }
-    if 4 <= len {
-        if four_at(a, len - 4) != four_at(b, len - 4) {
-            return false;
-        }
+    if 4 <= len && four_at(a, len - 4) != four_at(b, len - 4) {
+        return false;
     }
     equal_bytes::same_bytes(a, b)
 }

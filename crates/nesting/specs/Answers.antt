@@ -1,8 +1,10 @@
 -- What the code's answer says, in the terms of the definition.
+use Rattle.std.specs.Prelude.{Bool, true, false, Result, Ok, Err}
+use Rattle.wire.specs.declared.Refusal.{Refusal}
+use Rattle.wire.specs.Answers.{number_of, detail_of}
 use Rattle.nesting_spec.specs.Nesting.{Answer, yes, no, refused}
-use Rattle.nesting.specs.declared.Nesting.{Nesting}
 
-abbrev pub nesting_of : Nesting → Answer
-nesting_of Nesting.Yes = yes
-nesting_of Nesting.No = no
-nesting_of (Nesting.Refused r) = refused r.number r.detail
+abbrev pub nesting_of : Result Bool Refusal → Answer
+nesting_of (Ok true) = yes
+nesting_of (Ok false) = no
+nesting_of (Err r) = refused (number_of r) (detail_of r)

@@ -1,167 +1,150 @@
-// What the parser's methods do with the slice reader's answers: a new parser's numbers, its next event, a query's place apart.
+// What the parser's methods do with the slice reader's answers: a new parser's place, its next event, a query's place apart.
 #![tactic(auto)]
 
-ghost use Rattle.std.specs.Prelude.{◌≡◌};
+ghost use Rattle.std.specs.Prelude.{◌≡◌, ◌≢◌, Some, IfSome, IfNone};
 ghost use Rattle.slice_spec.specs.Parser.{new, next};
-ghost use Rattle.parser_steps.specs.Answers.{parser_at, opened_of, left_by, sought_of, refused_at};
+ghost use Rattle.parser_steps.specs.Answers.{parser_at, opened_of, left_by, number_by, sought_of, refused_at};
 
-use slice::queries::Queried;
-use slice::{Created, Next, Place};
+use slice::Place;
+use slice::queries::{Queried, Stopped};
 use wire::Refusal;
 
-// What next_event answers: an event of so many rows, whose place after it went into the parser; the end; or a refusal.
-#[derive(Clone, Copy)]
-pub enum Parsed {
-    Event(usize),
-    End,
-    Refused(Refusal),
-}
-
-// What a query answers: how it ended, how many events it consumed, and how many rows it wrote. A refused query keeps what it
-// found before.
-#[derive(Clone, Copy)]
+// What a query answers: how it ended, how many events it consumed, and how many rows it wrote.
+#[derive(Clone, Copy, Debug, PartialEq, Eq)]
 pub enum Asked {
-    Found {
-        events: usize,
-        rows: usize,
-    },
-    Done {
-        events: usize,
-        rows: usize,
-    },
-    Refused {
-        refusal: Refusal,
-        events: usize,
-        rows: usize,
-    },
+    Found { events: usize, rows: usize },
+    Done { events: usize, rows: usize },
 }
 
-// The numbers of a new parser.
-#[derive(Clone, Copy)]
+// A refused query keeps what it found before.
+#[derive(Clone, Copy, Debug, PartialEq, Eq)]
+pub struct Refused {
+    pub refusal: Refusal,
+    pub events: usize,
+    pub rows: usize,
+}
+
+// The place of a new parser, or why it has none.
+#[derive(Clone, Copy, Debug, PartialEq, Eq)]
 pub struct Opened {
-    pub at: usize,
-    pub names: usize,
-    pub number: u32,
-    pub detail: u32,
+    pub place: Place,
+    pub refusal: Option<Refusal>,
 }
 
+#[tactic(auto, unfolding(slice_spec::specs::Parser::new))]
 pub fn start(document: &[u8], pool: &[u32]) -> Opened
     ensures { opened_of document.now document.entry.ref_ptr result ≡ new document.now document.entry.ref_ptr pool.now }
 {
     match slice::create(document, pool) {
-        Created::Place(p) => Opened {
-            at: p.at,
-            names: p.names,
-            number: 0,
-            detail: 0,
+        Ok(place) => Opened {
+            place,
+            refusal: None,
         },
-        Created::Refused(r) => Opened {
-            at: 0,
-            names: 0,
-            number: r.number,
-            detail: r.detail,
+        Err(r) => Opened {
+            place: Place { at: 0, names: 0 },
+            refusal: Some(r),
         },
     }
 }
 
-// The place of a parser that has answered, and the answer.
-#[derive(Clone, Copy)]
-pub struct Stepped {
-    pub at: usize,
-    pub names: usize,
-    pub answer: Parsed,
+// The refusal of a `new`. No call gives the number 0; a caller may, and it says that nothing was refused.
+pub fn kept(refusal: Option<Refusal>) -> Option<Refusal>
+    ensures some { IfSome result (λ r. (refusal ≡ Some r) × (number_by refusal ≢ 0)) }
+    ensures none { IfNone result (number_by refusal ≡ 0) }
+{
+    match refusal {
+        Some(r) if r.number() != 0 => Some(r),
+        _ => None,
+    }
 }
 
+// The place of a parser that has answered, and the answer: an event of so many rows, or the end.
+#[derive(Clone, Copy, Debug, PartialEq, Eq)]
+pub struct Stepped {
+    pub place: Place,
+    pub answer: Result<Option<usize>, Refusal>,
+}
+
+#[tactic(auto, unfolding(slice_spec::specs::Parser::next))]
 pub fn step(
     document: &[u8],
-    at: usize,
-    names: usize,
-    number: u32,
-    detail: u32,
+    place: Place,
+    refusal: Option<Refusal>,
     pool: &mut [u32],
     rows: &mut [u32],
 ) -> Stepped
-    ensures { left_by (parser_at document.now document.entry.ref_ptr result.at result.names number detail) pool.new rows.new result.answer
-        ≡ next (parser_at document.now document.entry.ref_ptr at names number detail) pool.old rows.old }
+    ensures { left_by (parser_at document.now document.entry.ref_ptr result.place refusal) pool.new rows.new result.answer
+        ≡ next (parser_at document.now document.entry.ref_ptr place refusal) pool.old rows.old }
 {
-    if number != 0 {
-        return Stepped {
-            at,
-            names,
-            answer: Parsed::Refused(Refusal { number, detail }),
-        };
-    }
-    match slice::next_event(Place { at, names }, document, pool, rows) {
-        Next::Event { rows: count, place } => Stepped {
-            at: place.at,
-            names: place.names,
-            answer: Parsed::Event(count),
+    match kept(refusal) {
+        Some(refused) => Stepped {
+            place,
+            answer: Err(refused),
         },
-        Next::End => Stepped {
-            at,
-            names,
-            answer: Parsed::End,
-        },
-        Next::Refused(r) => Stepped {
-            at,
-            names,
-            answer: Parsed::Refused(r),
+        None => match slice::next_event(place, document, pool, rows) {
+            Ok(Some(event)) => Stepped {
+                place: event.place,
+                answer: Ok(Some(event.rows)),
+            },
+            Ok(None) => Stepped {
+                place,
+                answer: Ok(None),
+            },
+            Err(r) => Stepped {
+                place,
+                answer: Err(r),
+            },
         },
     }
 }
 
 // The place of a parser that was asked, and the answer.
-#[derive(Clone, Copy)]
+#[derive(Clone, Copy, Debug, PartialEq, Eq)]
 pub struct Sought {
-    pub at: usize,
-    pub names: usize,
-    pub answer: Asked,
+    pub place: Place,
+    pub answer: Result<Asked, Refused>,
 }
 
 // What the slice reader answered, its place apart.
-pub fn apart(queried: Queried) -> Sought
+pub fn apart(queried: Result<Queried, Stopped>) -> Sought
     ensures { result ≡ sought_of queried }
 {
     match queried {
-        Queried::Found(found) => Sought {
-            at: found.place.at,
-            names: found.place.names,
-            answer: Asked::Found {
+        Ok(Queried::Found(found)) => Sought {
+            place: found.place,
+            answer: Ok(Asked::Found {
                 events: found.events,
                 rows: found.rows,
-            },
+            }),
         },
-        Queried::Done(done) => Sought {
-            at: done.place.at,
-            names: done.place.names,
-            answer: Asked::Done {
+        Ok(Queried::Done(done)) => Sought {
+            place: done.place,
+            answer: Ok(Asked::Done {
                 events: done.events,
                 rows: done.rows,
-            },
+            }),
         },
-        Queried::Refused { refusal, reached } => Sought {
-            at: reached.place.at,
-            names: reached.place.names,
-            answer: Asked::Refused {
-                refusal,
-                events: reached.events,
-                rows: reached.rows,
-            },
+        Err(stopped) => Sought {
+            place: stopped.reached.place,
+            answer: Err(Refused {
+                refusal: stopped.refusal,
+                events: stopped.reached.events,
+                rows: stopped.reached.rows,
+            }),
         },
     }
 }
 
 // A refused `new` is the answer, and nothing was consumed.
-pub fn unasked(at: usize, names: usize, number: u32, detail: u32) -> Sought
-    ensures { result ≡ refused_at at names number detail }
+pub fn unasked(place: Place, refusal: Refusal) -> Sought
+    ensures { result ≡ refused_at place refusal }
 {
     Sought {
-        at,
-        names,
-        answer: Asked::Refused {
-            refusal: Refusal { number, detail },
+        place,
+        answer: Err(Refused {
+            refusal,
             events: 0,
             rows: 0,
-        },
+        }),
     }
 }

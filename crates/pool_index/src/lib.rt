@@ -15,14 +15,12 @@ fn inside(output: &[u8], pool: &[u32], names: usize) -> usize
     requires { 2 * names ≤ length pool.now }
     ensures { Inside output.now pool.now names result }
 {
-    let mut i = 0;
-    while i < names {
+    for i in 0..names {
         let start = pool[2 * i] as usize;
         let len = pool[2 * i + 1] as usize;
         if output.len() < start + len {
             return i;
         }
-        i += 1;
     }
     names
 }
@@ -68,13 +66,7 @@ fn index_pool(output: &[u8], pool: &[u32], names: usize, index: &mut [u16])
 pub fn prepare(output: &[u8], pool: &[u32], names: usize, index: &mut [u16])
     ensures { 2 * names ≤ length pool.now → names ≤ 65535 → Fresh index.old → MaybeIndexed output.now pool.now names index.new }
 {
-    if pool.len() / 2 < names {
-        return;
-    }
-    if 65_535 < names {
-        return;
-    }
-    if index.len() == 81_920 {
+    if names <= pool.len() / 2 && names <= 65_535 && index.len() == 81_920 {
         index_pool(output, pool, names, index);
     }
 }

@@ -1,14 +1,11 @@
 -- The quick way, piece by piece: a name, a span, a number, a value, an attribute.
-use mathlib.Core.Bool.{Bool, true}
-use mathlib.Core.List.{List, [], ◌∷◌, ◌++◌}
-use mathlib.Core.Option.{some}
-use mathlib.Core.Path.{◌≡◌, refl, sym, ap, ◌∙◌}
-use Prim.Native.Nat.{ℕ, zero, suc, ◌+◌, ◌*◌, ◌/◌, ◌-◌, ◌≤◌, ◌<◌}
-use native.Mathlib.Nat.{add-zero}
-use native.Mathlib.Omega.{arith}
-use borrow.Author.Tests.{lt-ltb, le-ltb, le-leb}
-use lib.ListN.{length, get_or, take, drop}
-use lib.Seq.{sets}
+use Rattle.std.proofs.Common.{Bool, true, List, [], ◌∷◌, ◌++◌, ◌≡◌, refl, sym, ap, ◌∙◌, ℕ, zero, suc, ◌+◌, ◌*◌, ◌/◌, ◌-◌, ◌≤◌, ◌<◌, add-zero, arith, length, get_or, take, drop}
+use Rattle.std.proofs.Math.Option.{some}
+use Rattle.std.specs.Prelude.{eqb}
+use Rattle.std.proofs.lemmas.List.Edits.{sets}
+use borrow.Author.Tests.{lt-ltb, le-ltb, le-leb, eqb-true, eqb-false}
+use Rattle.std.specs.Prelude.{Option, Some, None, IfSome}
+use Rattle.grammar.proofs.Choice.{by_test}
 use Rattle.wire.specs.Header.{u32_at}
 use Rattle.wire.specs.Token as Token
 use Rattle.wire.specs.Token.{interned_new}
@@ -37,17 +34,17 @@ in-store names table stored i h k = rw (lt-ltb i names h, le-leb _ _ k)
 
 module _ (sound : ℕ → Bool) (names : ℕ) (s : List ℕ) (at source : ℕ) (table : List ℕ) where
   pub known-flat : (v : ℕ) → u16 s at ≡ got v (at + 2) → (v ≡ interned_new → ⊥) → v < names → sound v ≡ true
-      → KnownName sound names s at source table (record { source = source; a = get_or table (2 * v) 0; b = get_or table (2 * v + 1) 0; next = at + 2 })
-  known-flat v e o h t = record { index = v; is = name-known sound names s at v (at + 2) e o h t; said = refl; moved = refl }
+      → KnownName sound names s at source table (record { source = source; a = get_or table (2 * v) 0; b = get_or table (2 * v + 1) 0 })
+  known-flat v e o h t = record { index = v; is = name-known sound names s at v (at + 2) e o h t; said = refl }
 
 module _ (s : List ℕ) (at base v : ℕ) (e : u16 s at ≡ got v (at + 2)) (h : v ≤ length s - (at + 2)) where
   abbrev flat : Flat
-  flat = record { source = 0; a = base + (at + 2); b = v; next = at + 2 + v }
+  flat = record { source = 0; a = base + (at + 2); b = v }
 
-  pub blob-flat : ReadSpan blob s at base flat
+  pub blob-flat : ReadSpan blob s at base flat (at + 2 + v)
   blob-flat = record { span = record { start = at + 2; len = v }; is = blob-good s at v (at + 2) e h; said = refl }
 
-  pub string-flat : well_formed (take v (drop (at + 2) s)) ≡ true → ReadSpan string s at base flat
+  pub string-flat : well_formed (take v (drop (at + 2) s)) ≡ true → ReadSpan string s at base flat (at + 2 + v)
   string-flat w = record { span = record { start = at + 2; len = v }; is = string-good s at v (at + 2) e h w; said = refl }
 
 -- ---- a number: where eight bytes are left, it is not cut
@@ -63,10 +60,9 @@ number-words source base table (suc (suc (suc n))) high low h = absurd (omega ar
 
 pub number-flat : (s : List ℕ) (at count high low : ℕ) → high ≡ u32_at s at → low ≡ u32_at s (at + 4) → count < 3
     → ReadNumber count s at
-    (record { source = 0; a = get_or (0 ∷ high ∷ low ∷ []) (count / 2) 0; b = get_or (0 ∷ high ∷ low ∷ []) count 0; next = at + 4 * count })
+    (record { source = 0; a = get_or (0 ∷ high ∷ low ∷ []) (count / 2) 0; b = get_or (0 ∷ high ∷ low ∷ []) count 0 })
 number-flat s at count high low e g h =
     record {
-      moved = refl;
       said = λ source base table. number-words source base table count high low h
           ∙ ap (value_words source base table) (ap (λ (x : ℕ). numbered count x low) e ∙ ap (numbered count (u32_at s at)) g);
     }
@@ -125,24 +121,32 @@ none-numbered names (suc (suc n)) high low = refl
 
 -- ---- a value, by its shape
 
-module _ (sound : ℕ → Bool) (names type : ℕ) (s : List ℕ) (at source base : ℕ) (table : List ℕ) (f : Flat) where
-  abbrev Gives : Type 0
-  Gives = ReadValue sound names type s at source base table f
+pub shape-blob : (type : ℕ) → 4 ≤ type → type ≤ 5 → shape type ≡ Shape.Blob
+unfolding shape shapes
+shape-blob type g h = by_test (eqb type 4) (λ e. ap shape (eqb-true type 4 e)) (λ e. let k : type ≡ 5 = omega (arith, eqb-false type 4 e) in ap shape k)
 
-  pub number-value : (count : ℕ) → count ≡ count_of (shape type) → count < 3 → at + 8 ≤ length s → ReadNumber count s at f → Gives
+pub some-map : {A : Type 0} {P Q : A → Type 0} (x : Option A) → ((a : A) → P a → Q a) → IfSome x P → IfSome x Q
+some-map (Some a) f h = f a h
+some-map None f h = tt
+
+module _ (sound : ℕ → Bool) (names type : ℕ) (s : List ℕ) (at source base : ℕ) (table : List ℕ) (f : Flat) where
+  abbrev Gives : ℕ → Type 0
+  Gives next = ReadValue sound names type s at source base table f next
+
+  pub number-value : (count : ℕ) → count ≡ count_of (shape type) → count < 3 → at + 8 ≤ length s → ReadNumber count s at f → Gives (at + 4 * count)
   number-value count e k h r =
       record {
         it = numbered count (u32_at s at) (u32_at s (at + 4));
         is = value-by sound names type s at (shape type) refl ∙ shaped-number sound names type s at (shape type) (rw (← e) k) h
-            ∙ rw (← e, r.moved);
+            ∙ rw (← e);
         said = r.said source base table;
         none-new = none-numbered names count (u32_at s at) (u32_at s (at + 4));
         same_names = same-numbered names count (u32_at s at) (u32_at s (at + 4));
       }
 
-  pub string-value : shape type ≡ Shape.String → ReadSpan string s at base f → Gives
+  pub string-value : (next : ℕ) → shape type ≡ Shape.String → ReadSpan string s at base f next → Gives next
   unfolding shaped value_words span_words adds_value counted_value
-  string-value e r =
+  string-value next e r =
       record {
         it = Value.span r.span;
         is = value-by sound names type s at Shape.String e ∙ bind-got string (λ t. give (Value.span t)) s at _ _ r.is;
@@ -151,9 +155,9 @@ module _ (sound : ℕ → Bool) (names type : ℕ) (s : List ℕ) (at source bas
         same_names = refl;
       }
 
-  pub blob-value : shape type ≡ Shape.Blob → ReadSpan blob s at base f → Gives
+  pub blob-value : (next : ℕ) → shape type ≡ Shape.Blob → ReadSpan blob s at base f next → Gives next
   unfolding shaped value_words span_words adds_value counted_value
-  blob-value e r =
+  blob-value next e r =
       record {
         it = Value.span r.span;
         is = value-by sound names type s at Shape.Blob e ∙ bind-got blob (λ t. give (Value.span t)) s at _ _ r.is;
@@ -162,7 +166,7 @@ module _ (sound : ℕ → Bool) (names type : ℕ) (s : List ℕ) (at source bas
         same_names = refl;
       }
 
-  pub known-value : shape type ≡ Shape.Interned → KnownName sound names s at source table f → Gives
+  pub known-value : shape type ≡ Shape.Interned → KnownName sound names s at source table f → Gives (at + 2)
   unfolding shaped value_words ref_words adds_value adds_ref counted_value counted
   known-value e r =
       record {
@@ -180,19 +184,19 @@ row_words kind type x x' y y' e g = rw (e, g)
 
 -- an attribute, by its name and its value
 module _ (sound : ℕ → Bool) (names : ℕ) (s : List ℕ) (at source base : ℕ) (table ws ws' : List ℕ) (to : ℕ) where
-  pub attribute-row : (type : ℕ) (n v : Flat) → at < length s → type ≡ Token.type (get_or s at 0)
-      → KnownName sound names s (at + 1) source table n → ReadValue sound names type s (at + 3) source base table v
+  pub attribute-row : (type : ℕ) (n v : Flat) (next : ℕ) → at < length s → type ≡ Token.type (get_or s at 0)
+      → KnownName sound names s (at + 1) source table n → ReadValue sound names type s (at + 3) source base table v next
       → ws' ≡ sets ws to (Token.attribute ∷ (words_of n ++ (type_of type ∷ words_of v)))
-      → ReadAttribute sound names s at source base table ws ws' to v.next
+      → ReadAttribute sound names s at source base table ws ws' to next
   unfolding adds_item adds_name adds_ref after counted_name counted item_words name_words ref_words
-  attribute-row type n v h t k r e =
-      let moved : n.next ≡ at + 3 = omega (arith, k.moved) in
-      let valued : value sound names (Token.type (get_or s at 0)) s n.next ≡ got r.it v.next = rw (← t, moved) r.is in
+  attribute-row type n v next h t k r e =
+      let moved : at + 1 + 2 ≡ at + 3 = omega arith in
+      let valued : value sound names (Token.type (get_or s at 0)) s (at + 1 + 2) ≡ got r.it next = rw (← t, moved) r.is in
       record {
         it = record { kind = Token.attribute; name = some (known k.index); type = type; value = r.it };
-        is = attribute-is sound names s at h (known k.index) n.next k.is
+        is = attribute-is sound names s at h (known k.index) (at + 1 + 2) k.is
             ∙ ap (as_attribute (some (known k.index)) (Token.type (get_or s at 0))) valued
-            ∙ ap (λ (x : ℕ). got (record { kind = Token.attribute; name = some (known k.index); type = x; value = r.it }) v.next) (sym t);
+            ∙ ap (λ (x : ℕ). got (record { kind = Token.attribute; name = some (known k.index); type = x; value = r.it }) next) (sym t);
         stored = e ∙ ap (sets ws to) (row_words Token.attribute (type_of type) _ _ _ _ k.said r.said);
         none-new = r.none-new;
         same_names = r.same_names;

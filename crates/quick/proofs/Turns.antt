@@ -1,13 +1,8 @@
 -- The quick way's loop over attributes, and the event that it reads.
-use mathlib.Core.Bool.{Bool, false}
-use mathlib.Core.List.{List, [], ◌∷◌, ◌++◌}
-use mathlib.Core.Option.{some}
-use mathlib.Core.Path.{◌≡◌, refl, sym, ap, ◌∙◌}
-use Prim.Native.Nat.{ℕ, ◌+◌, ◌*◌, ◌≤◌, ◌<◌}
-use native.Mathlib.Omega.{arith}
+use Rattle.std.proofs.Common.{Bool, false, List, [], ◌∷◌, ◌++◌, ◌≡◌, refl, sym, ap, ◌∙◌, ℕ, ◌+◌, ◌*◌, ◌≤◌, ◌<◌, arith, length, get_or}
+use Rattle.std.proofs.Math.Option.{some}
+use Rattle.std.proofs.lemmas.List.Edits.{sets}
 use borrow.Author.Tests.{eq-eqb, ne_eqb}
-use lib.ListN.{length, get_or}
-use lib.Seq.{sets}
 use Rattle.wire.specs.Token as Token
 use Rattle.wire.specs.Token.{command}
 use Rattle.grammar.specs.Reader.{got}
@@ -77,11 +72,11 @@ module _ (names source base : ℕ) (table : List ℕ) where
         let here : Left is₀ (item r.it (rest sound s names next)) 1 rows ws₀ ws = rw more at l in
         left-then is₀ _ _ 1 rows (rows + 1) ws₀ ws ws' here (row-less r.it (rest sound s names next) rows ws ws' r.none-new r.same_names r.stored)
 
-    pub left_other : (command (get_or s at 0) ≡ Token.attribute → ⊥) → rows ≤ 10 → ReadRest is₀ names source base table ws₀ ws (record { rows = rows; len = at })
-    left_other k m =
+    pub left_other : (command (get_or s at 0) ≡ Token.attribute → ⊥) → 0 < at → rows ≤ 10 → ReadRest is₀ names source base table ws₀ ws (record { rows = rows; len = at })
+    left_other k z m =
         let here : Left is₀ (whole at false) 1 rows ws₀ ws = rw (rest-other sound s names at h k) at l in
         let n = left-none is₀ at 1 rows ws₀ ws here in
-        record { ends = n.0; counted = n.1; few = m; none-new = n.2; stored = n.3 }
+        record { long = z; ends = n.0; counted = n.1; few = m; none-new = n.2; stored = n.3 }
 
   -- ---- the event
 
@@ -90,6 +85,7 @@ module _ (names source base : ℕ) (table : List ℕ) where
       → ReadEvent (item i is) names source base table ws ws'' t
   row-then i is ws ws' ws'' t l r =
       record {
+        long = r.long;
         ends = λ f. l.ends f ∙ r.ends f;
         counted = omega (arith, l.counted, r.counted);
         some-rows = omega (arith, r.counted);
@@ -107,7 +103,6 @@ module _ (names source base : ℕ) (table : List ℕ) where
       tag-first : first sound names s 0 ≡ got (tag kind) 3
       tag-first =
           first-tag sound names s h kind k a b ∙ ap (as_tag kind) r.is
-          ∙ ap (λ (m : ℕ). got (tag kind) m) r.moved
 
       tag-words : ws' ≡ sets ws 0 (item_words source base table (tag kind))
       unfolding item_words name_words ref_words value_words type_of
@@ -122,7 +117,7 @@ module _ (names source base : ℕ) (table : List ℕ) where
       end-tag o =
           let m = left-none (item (tag kind) (whole 3 false)) 3 0 1 ws ws' (tag-less (whole 3 false)) in
           rw (tag-first, ne_eqb _ _ o)
-          (record { ends = m.0; counted = omega (arith, m.1); some-rows = omega arith; few = omega arith; none-new = m.2; stored = m.3 })
+          (record { long = omega arith; ends = m.0; counted = omega (arith, m.1); some-rows = omega arith; few = omega arith; none-new = m.2; stored = m.3 })
 
       pub start-tag : (ws'' : List ℕ) (t : Taken) → kind ≡ Token.start_tag → ReadRest (rest sound s names 3) names source base table ws' ws'' t
           → ReadEvent (event sound names s) names source base table ws ws'' t

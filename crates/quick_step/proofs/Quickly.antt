@@ -1,26 +1,19 @@
 -- An event that the quick way took, and the step's answer then.
-use mathlib.Core.Bool.{Bool, false, cond}
-use mathlib.Core.List.{List, []}
-use mathlib.Core.Path.{◌≡◌, refl, sym, ap, ◌∙◌}
-use Prim.Native.Nat.{ℕ, ◌+◌, ◌*◌, ◌/◌, ◌≤◌}
-use native.Mathlib.Omega.{arith}
+use Rattle.std.proofs.Common.{Bool, false, cond, List, [], ◌≡◌, sym, ap, ◌∙◌, ℕ, ◌+◌, ◌*◌, ◌/◌, ◌≤◌, arith, length}
+use Rattle.std.proofs.lemmas.List.Edits.{sets}
 use borrow.Author.Tests.{le-ltb}
-use lib.ListN.{length}
-use lib.Seq.{sets}
 use Rattle.grammar.proofs.Choice.{by_test}
 use Rattle.grammar.specs.Grammar.{Span, Items, event}
 use Rattle.grammar.specs.Scan.{sound, adds, lengths, pairs, copied_pairs, joined, count, words, Outcome}
 use Rattle.quick.specs.declared.Taken.{Taken}
-use Rattle.quick.specs.Quick.{Quickly, declined, taken}
+use Rattle.std.specs.Prelude.{Option, Some, None}
+use Rattle.quick.specs.Quick.{Reads, Quickly}
 use Rattle.quick_step.specs.Step.{gives, Left, written, hand_out, by_outcome, step, too_long, outside, SteppedQuickly}
 use Rattle.quick_step.specs.Laws.{not-outside}
 
 module _ (s : List ℕ) (base : ℕ) (finished copied : Bool) (names used : ℕ) (table store rows rows₁ : List ℕ) (stored : ℕ) (t : Taken) where
   abbrev is : Items
   is = event (sound names table stored) names s
-
-  abbrev Quick : Type 0
-  Quick = Quickly is names (cond copied 1 0) base table rows rows₁ t
 
   module _ (e : too_long base (length s) copied (length store) ≡ false) (f : outside (length table) names copied used (length store) ≡ false)
       (g : stored ≡ cond copied (length store) (base + length s)) where
@@ -38,25 +31,17 @@ module _ (s : List ℕ) (base : ℕ) (finished copied : Bool) (names used : ℕ)
         (λ k. let bytes : used + 0 ≤ length store = omega (arith, o.1 k) in rw (k, le-ltb (length store) (used + 0) bytes, d, k))
         (λ k. rw (k, d, k)))
 
-    taken_is : Quick → (t.len ≡ 0 → ⊥) → record { reply = gives t.rows t.len 0 0; table = table; store = store; rows = rows₁ } ≡ step s base finished copied names used table store rows
+    taken_is : Reads is names (cond copied 1 0) base table rows rows₁ t
+        → record { reply = gives t.rows t.len 0 0; table = table; store = store; rows = rows₁ } ≡ step s base finished copied names used table store rows
     unfolding step by_outcome
-    taken_is (declined a b) n = absurd (n a)
-    taken_is (taken h a b c d q) n =
-        complete-is (adds names is) d b c q ∙ ap by (sym (a finished)) ∙ rw (e, f, ← g)
+    taken_is r = complete-is (adds names is) r.none-new r.counted r.fits r.written ∙ ap by (sym (r.ends finished)) ∙ rw (e, f, ← g)
 
 -- ---- the quick way of a step
 
-pub passed_over : (s : List ℕ) (base : ℕ) (copied : Bool) (names used : ℕ) (table store rows : List ℕ)
-    → SteppedQuickly s base copied names used table store rows rows (record { rows = 0; len = 0 })
-passed_over s base copied names used table store rows = record { declines = λ e. refl; steps = λ h finished. absurd (omega (arith, h)) }
-
-module _ (s : List ℕ) (base : ℕ) (copied : Bool) (names used : ℕ) (table store rows rows₁ : List ℕ) (t : Taken) where
+module _ (s : List ℕ) (base : ℕ) (copied : Bool) (names used : ℕ) (table store rows rows₁ : List ℕ) where
   pub steps-quickly : too_long base (length s) copied (length store) ≡ false → outside (length table) names copied used (length store) ≡ false
-      → (stored : ℕ) → stored ≡ cond copied (length store) (base + length s)
+      → (stored : ℕ) → stored ≡ cond copied (length store) (base + length s) → (t : Option Taken)
       → Quickly (event (sound names table stored) names s) names (cond copied 1 0) base table rows rows₁ t → SteppedQuickly s base copied names used table store rows rows₁ t
-  steps-quickly e f stored g (declined x y) = record { declines = λ z. y; steps = λ h finished. absurd (omega (arith, h, x)) }
-  steps-quickly e f stored g (taken h x y z w v) =
-      record {
-        declines = λ k. absurd (omega (arith, h, k));
-        steps = λ k finished. taken_is s base finished copied names used table store rows rows₁ stored t e f g (taken h x y z w v) (λ n. omega (arith, h, n));
-      }
+  steps-quickly e f stored g None r = r
+  steps-quickly e f stored g (Some t) r =
+      record { long = r.long; steps = λ finished. taken_is s base finished copied names used table store rows rows₁ stored t e f g r }

@@ -1,5 +1,5 @@
 -- One event: read and, where there is room, written. The slice reader and the chunk reader share this step.
-use Rattle.std.specs.Prelude.{Bool, ◌||◌, ◌&&◌, cond, List, ◌≡◌, ℕ, ◌+◌, ◌*◌, ◌/◌, ◌<◌, length, ltb}
+use Rattle.std.specs.Prelude.{Bool, Option, MatchOption, ◌||◌, ◌&&◌, cond, List, ◌≡◌, ℕ, ◌+◌, ◌*◌, ◌/◌, ◌<◌, length, ltb}
 use Rattle.std.proofs.lemmas.List.Edits.{sets}
 use Rattle.wire.specs.Refusal.{bad_size, bad_state, rows_full, pool_full, names_full}
 use Rattle.wire.specs.Limits.{max_store}
@@ -70,8 +70,12 @@ module _ (s : List ℕ) (base : ℕ) (finished copied : Bool) (names used : ℕ)
 
 -- ---- the quick way
 
--- nothing was written, or what the step gives, whether more bytes come or not
-pub record SteppedQuickly (s : List ℕ) (base : ℕ) (copied : Bool) (names used : ℕ) (table store rows rows' : List ℕ) (t : Taken) : Type 0 where
-  pub declines : t.len ≡ 0 → rows' ≡ rows
-  pub steps : 0 < t.len → (finished : Bool)
+-- an event was taken, and the step gives it, whether more bytes come or not
+pub record StepsQuickly (s : List ℕ) (base : ℕ) (copied : Bool) (names used : ℕ) (table store rows rows' : List ℕ) (t : Taken) : Type 0 where
+  pub long : 0 < t.len
+  pub steps : (finished : Bool)
       → record { reply = gives t.rows t.len 0 0; table = table; store = store; rows = rows' } ≡ step s base finished copied names used table store rows
+
+-- nothing was written, or such an event was
+abbrev pub SteppedQuickly : List ℕ → ℕ → Bool → ℕ → ℕ → List ℕ → List ℕ → List ℕ → List ℕ → Option Taken → Type 0
+SteppedQuickly s base copied names used table store rows rows' t = MatchOption t (rows' ≡ rows) (λ u. StepsQuickly s base copied names used table store rows rows' u)

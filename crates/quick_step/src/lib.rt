@@ -1,59 +1,33 @@
 // The step that both readers share, the quick way; and what a step checks before it looks at the event.
 #![tactic(auto)]
 
-ghost use Rattle.std.specs.Prelude.{cond, ◌≡◌, ◌+◌};
+ghost use Rattle.std.specs.Prelude.{cond, ◌≡◌, ◌+◌, ◌<◌, IfOk, IfErr};
+ghost use Rattle.wire.specs.Answers.{number_of, detail_of};
 ghost use Rattle.quick_step.specs.Step.{too_long, outside, refused_first, SteppedQuickly};
 
 use quick::Taken;
 use wire::{Refusal, limits};
 
 // Whether a store that a span lies in, of the input or of names, is longer than any may be.
+#[tactic(auto, using(std::proofs::lemmas::Bool::Decides::nat_tests), unfolding(crate::specs::Step::too_long))]
 fn is_too_long(base: usize, len: usize, copied: bool, store: usize) -> bool
     ensures { result ≡ too_long base len copied store }
 {
-    if limits::MAX_STORE < base {
-        return true;
-    }
-    if limits::MAX_STORE - base < len {
-        return true;
-    }
-    if copied {
-        return limits::MAX_STORE < store;
-    }
-    false
+    limits::MAX_STORE < base
+        || limits::MAX_STORE - base < len
+        || (copied && limits::MAX_STORE < store)
 }
 
+#[tactic(auto, using(std::proofs::lemmas::Bool::Decides::nat_tests), unfolding(crate::specs::Step::outside))]
 fn is_outside(words: usize, names: usize, copied: bool, used: usize, store: usize) -> bool
     ensures { result ≡ outside words names copied used store }
 {
-    if words / 2 < names {
-        return true;
-    }
-    if copied {
-        return store < used;
-    }
-    false
-}
-
-// How many bytes the store of the pool's names has.
-fn stored_in(copied: bool, store: usize, end: usize) -> usize
-    ensures { result ≡ cond copied store end }
-{
-    if copied {
-        return store;
-    }
-    end
-}
-
-// The number of a refusal, or 0; and then how many bytes the store of the pool's names has.
-#[derive(Clone, Copy)]
-pub struct Checked {
-    pub refusal: u32,
-    pub stored: usize,
+    words / 2 < names || (copied && store < used)
 }
 
 // 17, then 19: for an input of so many bytes that lies in its store from base on, a name store of so many bytes, of which so many are used
-// where names are copied to it, and so many names in a table of so many words.
+// where names are copied to it, and so many names in a table of so many words. Else how many bytes the store of the pool's names has.
+#[tactic(auto, using(std::proofs::lemmas::Bool::Decides::nat_tests), unfolding(crate::specs::Step::refused_first))]
 pub fn check(
     base: usize,
     len: usize,
@@ -62,29 +36,20 @@ pub fn check(
     words: usize,
     names: usize,
     used: usize,
-) -> Checked
-    ensures refusal { result.refusal ≡ refused_first base len copied store words names used }
-    ensures stored { result.refusal ≡ 0 → result.stored ≡ cond copied store (base + len) }
+) -> Result<usize, Refusal>
+    ensures ok { IfOk result (λ stored. (refused_first base len copied store words names used ≡ 0) × (stored ≡ cond copied store (base + len))) }
+    ensures err { IfErr result (λ r. (number_of r ≡ refused_first base len copied store words names used) × ((detail_of r ≡ 0) × (0 < number_of r))) }
 {
     if is_too_long(base, len, copied, store) {
-        return Checked {
-            refusal: Refusal::BAD_SIZE,
-            stored: 0,
-        };
+        return Err(Refusal::BadSize);
     }
     if is_outside(words, names, copied, used, store) {
-        return Checked {
-            refusal: Refusal::BAD_STATE,
-            stored: 0,
-        };
+        return Err(Refusal::BadState);
     }
-    Checked {
-        refusal: 0,
-        stored: stored_in(copied, store, base + len),
-    }
+    Ok(if copied { store } else { base + len })
 }
 
-// The step, the quick way. A length of 0: it declined, and nothing is written.
+// The step, the quick way, where nothing is refused first and the event is one of the commonest; else nothing is written.
 pub fn step_quickly(
     s: &[u8],
     base: usize,
@@ -94,12 +59,11 @@ pub fn step_quickly(
     table: &[u32],
     store: &[u8],
     rows: &mut [u32],
-) -> Taken
+) -> Option<Taken>
     ensures { SteppedQuickly s.now base copied names used table.now store.now rows.old rows.new result }
 {
-    let first = check(base, s.len(), copied, store.len(), table.len(), names, used);
-    if first.refusal != 0 {
-        return Taken { rows: 0, len: 0 };
-    }
-    quick::read(s, base, copied, names, first.stored, table, rows)
+    let Ok(stored) = check(base, s.len(), copied, store.len(), table.len(), names, used) else {
+        return None;
+    };
+    quick::read(s, base, copied, names, stored, table, rows)
 }

@@ -1,13 +1,7 @@
 -- The second pass over an event: its own row, then its attributes; and one row alone.
-use mathlib.Core.Bool.{true, false, true≢false}
-use mathlib.Core.List.{List, [], ◌∷◌, ◌++◌, append-nil}
-use mathlib.Core.Path.{◌≡◌, refl, sym, ap, ◌∙◌}
-use Prim.Native.Nat.{ℕ, ◌+◌, ◌*◌, ◌≤◌, ◌<◌}
-use native.Mathlib.Omega.{arith}
-use borrow.Author.Tests.{eqb-true, eqb-false, ne_eqb}
-use lib.Dec.{eqb}
-use lib.ListN.{length, get_or, drop}
-use lib.Seq.{sets, sets-eq, drop-length}
+use Rattle.std.proofs.Common.{true, false, true≢false, List, [], ◌∷◌, ◌++◌, append-nil, ◌≡◌, refl, sym, ap, ◌∙◌, ℕ, ◌+◌, ◌*◌, ◌≤◌, ◌<◌, arith, eqb-true, ne_eqb, eqb, length, get_or, drop}
+use Rattle.std.proofs.lemmas.Bool.{eqb-false}
+use Rattle.std.proofs.Math.Seq.{sets, sets-eq, drop-length}
 use Rattle.wire.specs.Token as Token
 use Rattle.grammar.proofs.Choice.{by_test}
 use Rattle.grammar.specs.Grammar.{Item, Items, item, whole, after, first, event}
@@ -22,8 +16,7 @@ use Rattle.grammar.specs.Trusted.{always}
 use Rattle.scanner.specs.declared.fill.Home.{Home}
 use Rattle.scanner.specs.declared.fill.Kept.{Kept}
 use Rattle.scanner.specs.declared.fill.Ahead.{Ahead}
-use Rattle.scanner.specs.declared.fill.Begun.{Begun}
-use Rattle.scanner.specs.Fill.{Room, Has, Once, Within, RowFilled, prepend, only, Ready, ReadyAt, FilledRows, Walked, BegunRows, OneFilled, rows_from, others_from, in_place, kept_by}
+use Rattle.scanner.specs.Fill.{Room, Has, Once, Within, RowFilled, prepend, only, Ready, ReadyAt, FilledRows, Walked, Begun, BegunRows, OneFilled, rows_from, others_from, in_place, kept_by}
 use Rattle.scanner.proofs.Filling.{it-has, once-it}
 use Rattle.scanner.proofs.Walking.{walked_none, walked-room, walked-names, walked_more, walked-long, walked-rows, walked-ready, walked_both, filled-walk}
 

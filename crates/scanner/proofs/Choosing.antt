@@ -1,13 +1,6 @@
 -- Rows that a query takes of an event, read one after another, and the new names that are kept on the way.
-use mathlib.Core.Bool.{Bool, true, false, ◌||◌, ◌&&◌, not, cond, true≢false}
-use mathlib.Core.List.{List, [], ◌∷◌, ◌++◌, append-nil, append_assoc}
-use mathlib.Core.Path.{◌≡◌, refl, sym, ap, ◌∙◌}
-use Prim.Native.Nat.{ℕ, ◌+◌, ◌*◌, ◌≤◌, ◌<◌}
-use native.Mathlib.Omega.{arith}
-use borrow.Author.Tests.{eq-eqb, ne_eqb}
-use lib.Dec.{leb, eqb}
-use lib.ListN.{length, get_or, length-append}
-use lib.Seq.{sets, length-sets}
+use Rattle.std.proofs.Common.{Bool, true, false, ◌||◌, ◌&&◌, not, cond, true≢false, List, [], ◌∷◌, ◌++◌, append-nil, append_assoc, ◌≡◌, refl, sym, ap, ◌∙◌, ℕ, ◌+◌, ◌*◌, ◌≤◌, ◌<◌, arith, eq-eqb, ne_eqb, ltb-true, ltb-false, leb, ltb, eqb, length, get_or, length-append}
+use Rattle.std.proofs.Math.Seq.{sets, length-sets}
 use Rattle.wire.specs.Token as Token
 use Rattle.grammar.proofs.Choice.{by_test}
 use Rattle.grammar.specs.Grammar.{Span, Item, Items, item, whole, event}
@@ -91,12 +84,12 @@ grown-long base names table is = length-sets table (2 * names) (pairs base (adds
 
 -- ---- attributes
 
-module _ (base : ℕ) (s document name : List ℕ) (all one still write : Bool) (to : ℕ) where
+module _ (base : ℕ) (s document name : List ℕ) (all one still : Bool) (to : ℕ) where
   abbrev pub takes : Bool → List Words → List Words
   takes looking ws = cond looking (taken all one document name ws) []
 
   abbrev pub stored : ℕ → List Words → List ℕ → List ℕ
-  stored n ws rows = cond write (sets rows (to + 8 * n) (concat ws)) rows
+  stored n ws rows = sets rows (to + 8 * n) (concat ws)
 
   -- what is left to do leads to this table, so many rows, and these words
   pub record Taking (final : List ℕ) (total : ℕ) (written : List ℕ) (names : ℕ) (is : Items) (looking : Bool) (n : ℕ) (table rows : List ℕ) : Type 0 where
@@ -105,37 +98,37 @@ module _ (base : ℕ) (s document name : List ℕ) (all one still write : Bool) 
     pub grows : grown base names table is ≡ final
     pub counts : n + length (takes looking (rows_of base final is)) ≡ total
     pub stores : stored n (takes looking (rows_of base final is)) rows ≡ written
-    pub room : write ≡ true → to + 8 * total ≤ length rows
+    pub room : 0 < length rows → to + 8 * total ≤ length rows
 
   stored-long : (n : ℕ) (ws : List Words) (rows : List ℕ) → length (stored n ws rows) ≡ length rows
-  stored-long n ws rows = by_test write (λ e. rw e (length-sets rows (to + 8 * n) (concat ws))) (λ e. rw e)
+  stored-long n ws rows = length-sets rows (to + 8 * n) (concat ws)
 
   stored-none : (n : ℕ) (rows : List ℕ) → stored n [] rows ≡ rows
   unfolding concat
-  stored-none n rows = by_test write (λ e. rw e) (λ e. rw e)
+  stored-none n rows = refl
 
   -- a row that is taken, then others
-  stored_row : (n : ℕ) (w : Words) (ws : List Words) (rows : List ℕ) → length w ≡ 8 → stored (n + 1) ws (cond write (sets rows (to + 8 * n) w) rows) ≡ stored n (w ∷ ws) rows
+  stored_row : (n : ℕ) (w : Words) (ws : List Words) (rows : List ℕ) → length w ≡ 8 → stored (n + 1) ws (sets rows (to + 8 * n) w) ≡ stored n (w ∷ ws) rows
   unfolding concat
   stored_row n w ws rows l =
       let m : to + 8 * (n + 1) ≡ to + 8 * n + length w = omega (arith, l) in
-      by_test write (λ e. rw e (ap (λ (k : ℕ). sets (sets rows (to + 8 * n) w) k (concat ws)) m ∙ sym (sets-append rows (to + 8 * n) w (concat ws)))) (λ e. rw e)
+      ap (λ (k : ℕ). sets (sets rows (to + 8 * n) w) k (concat ws)) m ∙ sym (sets-append rows (to + 8 * n) w (concat ws))
 
   module _ (names : ℕ) (is : Items) (look : Bool) (table rows : List ℕ) where
     abbrev pub asked_of : List Words
     asked_of = takes look (rows_of base (grown base names table is) is)
 
-    pub taking-start : ReadyAt base s names is table → (still ≡ true → length (adds names is) ≡ 0) → Room write to (length asked_of) rows
+    pub taking-start : ReadyAt base s names is table → (still ≡ true → length (adds names is) ≡ 0) → Room to (length asked_of) rows
         → Taking (grown base names table is) (length asked_of) (stored 0 asked_of rows) names is look 0 table rows
     taking-start r f m = record { ready = r; still-none = f; grows = refl; counts = omega arith; stores = refl; room = m.fits }
 
     pub asked-long : length (stored 0 asked_of rows) ≡ length rows
     asked-long = stored-long 0 asked_of rows
 
-    pub taken_is : (table₁ rows₁ : List ℕ) (n : ℕ) → n ≡ length asked_of → rows₁ ≡ stored 0 asked_of rows → Chose write to asked_of rows rows₁ n
+    pub taken_is : (table₁ rows₁ : List ℕ) (n : ℕ) → n ≡ length asked_of → rows₁ ≡ stored 0 asked_of rows → Chose to asked_of rows rows₁ n
     taken_is table₁ rows₁ n e f =
         let m : to + 8 * 0 ≡ to = omega arith in
-        record { counted = e; rows_are = f ∙ ap (λ (k : ℕ). cond write (sets rows k (concat asked_of)) rows) m }
+        record { counted = e; rows_are = f ∙ ap (λ (k : ℕ). sets rows k (concat asked_of)) m }
 
   module _ (final : List ℕ) (total : ℕ) (written : List ℕ) (names : ℕ) (is : Items) (looking : Bool) (n : ℕ) (table rows : List ℕ) (g : Taking final total written names is looking n table rows) where
     pub taking-long : length rows ≡ length written
@@ -195,7 +188,7 @@ module _ (base : ℕ) (s document name : List ℕ) (all one still write : Bool) 
         grows = row-grown base s names is table table₁ row from js a o ∙ g.grows;
         counts = c;
         stores = d;
-        room = λ e. omega (arith, g.room e, l);
+        room = λ e. omega (arith, g.room (omega (arith, e, l)), l);
       }
 
       pub taking-skip : wanted ≡ false → Taking final total written a.kept.names js looking n table₁ rows
@@ -207,12 +200,12 @@ module _ (base : ℕ) (s document name : List ℕ) (all one still write : Bool) 
         picked-is : takes looking (rows_of base final is) ≡ row ∷ takes (not one) after-it
         picked-is = ap (takes looking) rows_are ∙ picks e
 
-        pub taking-room : write ≡ true → to + 8 * n + 8 ≤ length rows
+        pub taking-room : 0 < length rows → to + 8 * n + 8 ≤ length rows
         taking-room f = omega (arith, g.room f, g.counts, ap length picked-is)
 
-        pub taking-more : (rows₁ : List ℕ) → rows₁ ≡ cond write (sets rows (to + 8 * n) row) rows → Taking final total written a.kept.names js (not one) (n + 1) table₁ rows₁
+        pub taking-more : (rows₁ : List ℕ) → rows₁ ≡ sets rows (to + 8 * n) row → Taking final total written a.kept.names js (not one) (n + 1) table₁ rows₁
         taking-more rows₁ d =
-            let l : length (cond write (sets rows (to + 8 * n) row) rows) ≡ length rows = by_test write (λ w. rw w (length-sets rows (to + 8 * n) row)) (λ w. rw w) in
+            let l : length (sets rows (to + 8 * n) row) ≡ length rows = length-sets rows (to + 8 * n) row in
             next (not one) (n + 1) rows₁ (ap length d ∙ l) (omega (arith, g.counts, ap length picked-is))
             (ap (stored (n + 1) (takes (not one) after-it)) d ∙ stored_row n row (takes (not one) after-it) rows (row-eight base s names is table table₁ row from js a o)
             ∙ ap (λ (ws : List Words). stored n ws rows) (sym picked-is) ∙ g.stores)
@@ -247,18 +240,14 @@ unfolding concat
 concat-append [] vs = refl
 concat-append (w ∷ ws) vs = ap (λ (x : List ℕ). w ++ x) (concat-append ws vs) ∙ sym (append_assoc w (concat ws) (concat vs))
 
-chose-both : (write : Bool) (to : ℕ) (ws vs : List Words) (rows rows₁ rows₂ : List ℕ) (n m : ℕ) → length (concat ws) ≡ 8 * length ws
-    → Chose write to ws rows rows₁ n → Chose write (to + 8 * n) vs rows₁ rows₂ m → Chose write to (ws ++ vs) rows rows₂ (n + m)
-chose-both write to ws vs rows rows₁ rows₂ n m l x y = record {
-  counted = omega (arith, x.counted, y.counted, length-append ws vs);
-  rows_are = by_test write (λ e. on e) (λ e. rw e (y.rows_are ∙ rw e (x.rows_are ∙ rw e)));
-}
-  where
-    on : write ≡ true → rows₂ ≡ cond write (sets rows to (concat (ws ++ vs))) rows
-    on e =
-        let k : to + 8 * n ≡ to + length (concat ws) = omega (arith, l, x.counted) in
-        let u : rows₁ ≡ sets rows to (concat ws) = x.rows_are ∙ rw e in
-        rw (e, concat-append ws vs, sets-append rows to (concat ws) (concat vs)) (y.rows_are ∙ rw (e, u, k))
+chose-both : (to : ℕ) (ws vs : List Words) (rows rows₁ rows₂ : List ℕ) (n m : ℕ) → length (concat ws) ≡ 8 * length ws
+    → Chose to ws rows rows₁ n → Chose (to + 8 * n) vs rows₁ rows₂ m → Chose to (ws ++ vs) rows rows₂ (n + m)
+chose-both to ws vs rows rows₁ rows₂ n m l x y =
+    let k : to + 8 * n ≡ to + length (concat ws) = omega (arith, l, x.counted) in
+    record {
+      counted = omega (arith, x.counted, y.counted, length-append ws vs);
+      rows_are = rw (concat-append ws vs, sets-append rows to (concat ws) (concat vs)) (y.rows_are ∙ rw (x.rows_are, k));
+    }
 
 module _ (base : ℕ) (s : List ℕ) (names : ℕ) (table table₁ row : List ℕ) (a : Ahead) (r : ReadyAt base s names (event always names s) table)
     (o : OneFilled base s names (event always names s) table table₁ row 0 (others_from s 0 a) a) where
@@ -289,13 +278,13 @@ module _ (base : ℕ) (s : List ℕ) (names : ℕ) (table table₁ row : List �
         none-grown base a.kept.names table₁ (others_from s 0 a) (ap (λ (js : Items). length (adds a.kept.names js)) single)
         ∙ row-grown base s names is table table₁ row 0 _ a o
 
-    pub single-chosen : (q : Query) (document element name rows : List ℕ) (write : Bool) (to : ℕ)
-        → Chose write to (chosen q document element name (rows_of base (grown base names table is) is)) rows rows 0
+    pub single-chosen : (q : Query) (document element name rows : List ℕ) (to : ℕ)
+        → Chose to (chosen q document element name (rows_of base (grown base names table is) is)) rows rows 0
     unfolding chosen is_element
-    single-chosen q document element name rows write to =
+    single-chosen q document element name rows to =
         let e : chosen q document element name (rows_of base (grown base names table is) is) ≡ [] =
         ap (chosen q document element name) (row_first base s names is table table₁ row 0 _ a o) ∙ rw (ne_eqb (get_or row 0 0) Token.start_tag z) in
-        rw e (chose_none write to rows)
+        rw e (chose_none to rows)
 
   -- a start tag
   module _ (z : get_or row 0 0 ≡ Token.start_tag) where
@@ -344,26 +333,28 @@ module _ (base : ℕ) (s : List ℕ) (names : ℕ) (table table₁ row : List �
       both_long : length Asked ≡ length its + length others
       both_long = ap length parts ∙ length-append its others
 
-      module _ (write : Bool) (to : ℕ) (rows : List ℕ) (m : Room write to (length Asked) rows) where
-        pub own-fits : own ≡ true → write ≡ true → to + 8 ≤ length rows
+      module _ (to : ℕ) (rows : List ℕ) (m : Room to (length Asked) rows) where
+        pub own-fits : own ≡ true → 0 < length rows → to + 8 ≤ length rows
         own-fits e f = let l : length its ≡ 1 = rw e in omega (arith, m.fits f, both_long, l)
 
-        module _ (rows₁ : List ℕ) (n : ℕ) (x : Chose write to its rows rows₁ n) (nought : write ≡ false → to ≡ 0) where
+        module _ (rows₁ : List ℕ) (n : ℕ) (x : Chose to its rows rows₁ n) (nought : length rows ≡ 0 → to ≡ 0) where
           same-long : length rows₁ ≡ length rows
-          same-long = ap length x.rows_are ∙ by_test write (λ e. rw e (length-sets rows to (concat its))) (λ e. rw e)
+          same-long = ap length x.rows_are ∙ length-sets rows to (concat its)
 
           pub own-few : n ≤ 1
           own-few = omega (arith, x.counted, its-few)
 
           pub others-from : to + 8 * n < 18_446_744_073_709_551_616
-          others-from = by_test write (λ e. omega (arith, m.fits e, m.sized, x.counted, both_long)) (λ e. omega (arith, nought e, own-few))
+          others-from =
+              by_test (ltb 0 (length rows)) (λ e. omega (arith, m.fits (ltb-true 0 (length rows) e), m.sized, x.counted, both_long))
+              (λ e. omega (arith, nought (omega (arith, ltb-false 0 (length rows) e)), own-few))
 
-          pub others-room : Room write (to + 8 * n) (length others) rows₁
+          pub others-room : Room (to + 8 * n) (length others) rows₁
           others-room = record {
-            fits = λ e. omega (arith, m.fits e, x.counted, both_long, same-long);
+            fits = λ e. omega (arith, m.fits (omega (arith, e, same-long)), x.counted, both_long, same-long);
             sized = omega (arith, m.sized, same-long);
-            counts = λ e. omega (arith, nought e, own-few);
+            counts = λ e. omega (arith, nought (omega (arith, e, same-long)), own-few);
           }
 
-          pub all-chosen : (rows₂ : List ℕ) (k : ℕ) → Chose write (to + 8 * n) others rows₁ rows₂ k → Chose write to Asked rows rows₂ (n + k)
-          all-chosen rows₂ k y = rw parts (chose-both write to its others rows rows₁ rows₂ n k its-eight x y)
+          pub all-chosen : (rows₂ : List ℕ) (k : ℕ) → Chose (to + 8 * n) others rows₁ rows₂ k → Chose to Asked rows rows₂ (n + k)
+          all-chosen rows₂ k y = rw parts (chose-both to its others rows rows₁ rows₂ n k its-eight x y)

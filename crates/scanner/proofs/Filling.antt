@@ -1,24 +1,22 @@
 -- The second pass, field by field: what was read before, and the words that it makes.
-use mathlib.Core.Bool.{cond}
-use mathlib.Core.List.{List, [], ◌∷◌}
-use mathlib.Core.Path.{◌≡◌, refl}
-use Prim.Native.Nat.{ℕ, ◌+◌, ◌*◌, ◌≤◌, ◌<◌}
-use native.Mathlib.Omega.{arith}
-use lib.ListN.{length, get_or}
+use Rattle.std.proofs.Common.{cond, List, [], ◌∷◌, ◌≡◌, refl, ℕ, ◌+◌, ◌-◌, ◌*◌, ◌≤◌, ◌<◌, le-ltb, arith, length, get_or}
 use Rattle.wire.specs.Limits.{max_store}
-use Rattle.wire.specs.Header.{u32_at}
+use Rattle.wire.specs.Header.{u32_of, u32_at}
 use Rattle.wire.specs.Token.{interned_new}
+use Rattle.event.specs.Row.{shape}
+use Rattle.event.specs.declared.Shape.TheVariants as Shape
 use Rattle.grammar.specs.Reader.{Read, got, short, refused, next}
-use Rattle.grammar.specs.Grammar.{Span, Ref, new, known, Value, u16, u32, u64, blob, name}
+use Rattle.grammar.specs.Grammar.{Span, Ref, new, known, Value, u16, u32, u64, blob, name, value, shaped}
 use Rattle.grammar.specs.Scan.{adds_ref, adds_value, span_words, ref_words, value_words}
 use Rattle.grammar.proofs.Binds.{Got}
-use Rattle.grammar.proofs.Values.{as_text, as_interned, as_word, as_pair}
+use Rattle.grammar.proofs.Values.{as_text, as_interned, as_word, as_pair, value-by}
 use Rattle.grammar.specs.Trusted.{always}
 use Rattle.grammar.proofs.Again.{blob-two, blob-spans, name-two, u32-four, u64-eight, new_two, new-spans, known-below, known_is}
 use Rattle.scanner.specs.declared.fill.Home.{Home}
 use Rattle.scanner.specs.declared.fill.Kept.{Kept}
 use Rattle.scanner.specs.declared.fill.Filled.{Filled}
-use Rattle.scanner.specs.Fill.{words_of, pooled_in, Room, Keeps, Has, Once, Within, SpanFilled, RefFilled, ValueFilled}
+use Rattle.quick.specs.Quick.{words_of}
+use Rattle.scanner.specs.Fill.{pooled_in, Room, Keeps, Has, Once, Within, SpanFilled, RefFilled, ValueFilled}
 use Rattle.scanner.proofs.Keeping.{keeps-none}
 
 -- ---- what was read
@@ -47,6 +45,21 @@ module _ {A : Type 0} (P : A → ℕ → Type 0) where
 
   pub once-it : (x : Read A) (a : A) (n : ℕ) → x ≡ got a n → Once P x → P a n
   once-it x a n e h = rw e at h
+
+-- ---- a length or an index
+
+pub field-is : (s : List ℕ) (at j v : ℕ) → at + 2 ≤ length s → j ≡ at + 1 → v ≡ get_or s at 0 * 256 + get_or s j 0 → u16 s at ≡ got v (at + 2)
+unfolding u16
+field-is s at j v h m e = rw (le-ltb (length s - at) 2 (omega arith), e, m)
+
+-- the second number of a pair
+pub pair-low : (s : List ℕ) (at v : ℕ) → v ≡ u32_of (get_or s (at + 4) 0) (get_or s (at + 5) 0) (get_or s (at + 6) 0) (get_or s (at + 7) 0) → v ≡ u32_at s (at + 4)
+unfolding u32_at
+pair-low s at v e =
+    let a : at + 4 + 1 ≡ at + 5 = omega arith in
+    let b : at + 4 + 2 ≡ at + 6 = omega arith in
+    let c : at + 4 + 3 ≡ at + 7 = omega arith in
+    rw (a, b, c) e
 
 -- ---- a name
 
@@ -125,6 +138,21 @@ pub has-any : {A : Type 0} (P : A → Type 0) (x : Read A) → Has P x → Has (
 has-any P (got a n) h = tt
 has-any P (short k) h = h
 has-any P (refused n d) h = h
+
+-- a number has its bytes
+module _ (h : Home) (s : List ℕ) (k : Kept) (type at : ℕ) (table store : List ℕ)
+    (g : Has (λ v. Room h k (adds_value k.names v) table store) (value always k.names type s at)) where
+  pub word-there : shape type ≡ Shape.Word → at + 4 ≤ length s
+  unfolding shaped
+  word-there e =
+      let z = rw (value-by always k.names type s at Shape.Word e) at g in
+      (u32-four s at (has-got _ _ (has-field Value.word (λ v. Room h k (adds_value k.names v) table store) (u32 s at) z))).0
+
+  pub pair-there : shape type ≡ Shape.Pair → at + 8 ≤ length s
+  unfolding shaped
+  pair-there e =
+      let z = rw (value-by always k.names type s at Shape.Pair e) at g in
+      (u64-eight s at (has-got _ _ (has-field (λ w. Value.pair w.0 w.1) (λ v. Room h k (adds_value k.names v) table store) (u64 s at) z))).0
 
 module _ (h : Home) (s : List ℕ) (k : Kept) (table store : List ℕ) (f : Filled) where
   -- what is no name

@@ -1,12 +1,8 @@
 -- New names that are kept, one after another.
-use mathlib.Core.Bool.{true, false, true≢false}
-use mathlib.Core.List.{List, [], ◌∷◌, ◌++◌, append-nil}
-use mathlib.Core.Path.{◌≡◌, refl, sym, ap, ◌∙◌}
-use Prim.Native.Nat.{ℕ, ◌+◌, ◌*◌, ◌≤◌, ◌<◌}
-use native.Mathlib.Omega.{arith}
-use borrow.Author.Tests.{lt-ltb, le-ltb}
-use lib.ListN.{length, take, drop, length-append}
-use lib.Seq.{sets, length-sets}
+use Rattle.std.proofs.Common.{true, false, true≢false, List, [], ◌∷◌, ◌++◌, append-nil, ◌≡◌, refl, sym, ap, ◌∙◌, ℕ, ◌+◌, ◌*◌, ◌≤◌, ◌<◌, arith, lt-ltb, le-ltb, length, take, drop, length-append}
+use Rattle.std.proofs.Math.Seq.{sets, length-sets}
+use borrow.Rule.Slice.PartMut.{put_mid}
+use Rattle.byte_copy.proofs.Parts.{part-back}
 use Rattle.grammar.proofs.Choice.{by_test, cond-by}
 use Rattle.wire.specs.Limits.{max_store}
 use Rattle.grammar.specs.Grammar.{Span, new, most}
@@ -17,6 +13,10 @@ use Rattle.grammar.proofs.Stores.{sets-append, pairs-length, pairs-append, copie
 use Rattle.scanner.specs.declared.fill.Home.{Home}
 use Rattle.scanner.specs.declared.fill.Kept.{Kept}
 use Rattle.scanner.specs.Fill.{kept_pairs, kept_bytes, Room, Keeps}
+
+-- a part of a slice that was written
+pub part-put : (l ws part : List ℕ) (i k : ℕ) → part ≡ ws → k ≡ length ws → i + length ws ≤ length l → put_mid i k l part ≡ sets l i ws
+part-put l ws part i k p e h = rw p (part-back l ws i k e h)
 
 module _ (h : Home) where
   kept-length : (used : ℕ) (ts : List Span) → length (kept_pairs h used ts) ≡ 2 * length ts

@@ -1,17 +1,12 @@
 -- One event of a query, from a row's name to the turn that the definition makes.
-use mathlib.Core.Bool.{Bool, true, false, ◌||◌, cond, true≢false}
-use mathlib.Core.List.{List, [], ◌∷◌, ◌++◌, append-nil}
-use mathlib.Core.Path.{◌≡◌, refl, sym, ap, ◌∙◌}
-use Prim.Native.Nat.{ℕ, suc, ◌+◌, ◌*◌, ◌-◌, ◌/◌, ◌≤◌, ◌<◌}
-use native.Mathlib.Numerals.{add-one}
-use native.Mathlib.Omega.{arith}
-use borrow.Author.Tests.{lt-ltb, le-ltb, ltb-false, eq-eqb, ne_eqb}
-use lib.Dec.{ltb, leb, eqb}
-use lib.ListN.{length, take, drop, get_or, set, replicate, length-replicate, length-append, length-drop}
-use lib.Seq.{sets, take_all, take-nil, drop-nil, take-suc, sets-eq, length-sets, length-take-le, take_at, drop_at}
+use Rattle.std.proofs.Common.{Bool, true, false, ◌||◌, cond, true≢false, List, [], ◌∷◌, ◌++◌, append-nil, ◌≡◌, refl, sym, ap, ◌∙◌, ℕ, suc, ◌+◌, ◌*◌, ◌-◌, ◌/◌, ◌≤◌, ◌<◌, arith, lt-ltb, le-ltb, ltb-false, eq-eqb, ne_eqb, ltb, leb, eqb, length, take, drop, get_or, replicate, length-append, length-drop, take_all, length-take-le, take_at, drop_at}
+use Rattle.std.proofs.lemmas.List.{length-replicate}
+use Rattle.std.proofs.Math.Seq.{sets, take-nil, drop-nil, sets-eq, length-sets}
+use Rattle.std.specs.Prelude.{Some, None, Ok, Err}
 use Rattle.wire.specs.Token as Token
 use Rattle.wire.specs.Refusal.{rows_full, pool_full, bad_size, bad_state}
 use Rattle.wire.specs.declared.Refusal.{Refusal}
+use Rattle.wire.specs.Answers.{number_of, detail_of}
 use Rattle.wire.specs.Limits.{max_store}
 use Rattle.event.specs.Span.{part, span, text, same}
 use Rattle.event.specs.Row.{has_name, row_at}
@@ -23,7 +18,7 @@ use Rattle.grammar.specs.Scan as Scan
 use Rattle.grammar.proofs.Choice.{by_test, cond-by}
 use Rattle.grammar.proofs.Said.{item-length}
 use Rattle.grammar.proofs.Laws.{Agree, agree-event}
-use Rattle.grammar.proofs.Stores.{sets-append, pairs-length}
+use Rattle.grammar.proofs.Stores.{pairs-length}
 use Rattle.grammar.specs.Trusted.{always}
 use Rattle.grammar.proofs.Trusted.{trusted-event}
 use Rattle.extent.specs.Measured.{measured}
@@ -36,7 +31,6 @@ use Rattle.slice_spec.proofs.Whole.{counted_name-most, counted_value-most}
 use Rattle.slice_spec.specs.Turns.{Turn, passed, halted, passing, turn_by, turn_or_refuse}
 use Rattle.scanner.specs.Fill.{ReadyAt}
 use Rattle.scanner.specs.declared.select.Query.{Query}
-use Rattle.scanner.specs.declared.select.Seen.TheVariants as Seen
 use Rattle.scanner.specs.Select.{query_of, takes_one, most_of, rows_of, taken, chosen, grown, asked, Room, Chose, Whole, progress, seen, Sees, Tried, turned, unsure, in_doubt, uncounted_by, uncounted, turn-seen}
 
 -- ---- a row's name
@@ -74,24 +68,16 @@ module _ (document name : List ℕ) where
   unfolding is_element
   element-not w k = rw (ne_eqb (get_or w 0 0) Token.start_tag k)
 
--- ---- words that are stored
-
--- one word more
-pub words-turn : (words rows : List ℕ) (at n i : ℕ) (now : List ℕ) → n ≤ length words → i < n → now ≡ sets rows at (take i words)
-    → set now (at + i) (get_or words i 0) ≡ sets rows at (take (i + 1) words)
-words-turn words rows at n i now h k e =
-    let l : length (take i words) ≡ i = length-take-le i words (omega arith) in
-    let t : take (i + 1) words ≡ take i words ++ (get_or words i 0 ∷ []) = rw add-one (take-suc words i 0 (omega arith)) in
-    rw (e, t, sets-append rows at (take i words) (get_or words i 0 ∷ []), l)
+-- ---- rows that are stored
 
 -- the row alone, where it is taken
-pub chose-first : (write : Bool) (to : ℕ) (w rows rows₁ : List ℕ) → rows₁ ≡ cond write (sets rows to w) rows → Chose write to (w ∷ []) rows rows₁ 1
+pub chose-first : (to : ℕ) (w rows rows₁ : List ℕ) → rows₁ ≡ sets rows to w → Chose to (w ∷ []) rows rows₁ 1
 unfolding concat
-chose-first write to w rows rows₁ e = record { counted = refl; rows_are = e ∙ rw (append-nil w) }
+chose-first to w rows rows₁ e = record { counted = refl; rows_are = e ∙ rw (append-nil w) }
 
-pub chose_none : (write : Bool) (to : ℕ) (rows : List ℕ) → Chose write to [] rows rows 0
+pub chose_none : (to : ℕ) (rows : List ℕ) → Chose to [] rows rows 0
 unfolding concat
-chose_none write to rows = record { counted = refl; rows_are = cond-by (λ (x : List ℕ). rows ≡ x) write _ _ (λ _. refl) (λ _. refl) }
+chose_none to rows = record { counted = refl; rows_are = refl }
 
 -- ---- what the definition picks, and what the code takes
 
@@ -154,9 +140,9 @@ unfolding pairs
 none-stored table k base [] h = refl
 none-stored table k base (t ∷ ts) h = absurd (omega arith)
 
--- rows that are only counted have room in any store; so a store of one word, which is not looked at, serves
-pub counting : (n x : ℕ) → Room false 0 n (x ∷ [])
-counting n x = record { fits = λ t. absurd (true≢false (sym t)); sized = omega arith; counts = λ _. omega arith }
+-- rows that are only counted have room where none are lent
+pub counting : (n : ℕ) → Room 0 n []
+counting n = record { fits = λ t. absurd (omega (arith, t)); sized = omega arith; counts = λ _. omega arith }
 
 -- words that are so many zeros; the number is a variable, since the list is long
 pub zeros-long : (n : ℕ) → n ≤ length {A = ℕ} (replicate n 0)
@@ -321,19 +307,19 @@ module _ (document : List ℕ) (p : Place) (table : List ℕ) (count added : ℕ
       There = passing g (kind_of is) len ts ws
 
       -- 10
-      pub few-rows : (number detail : ℕ) → ltb (length rows / 8) (written + length ws) ≡ true → number ≡ rows_full → detail ≡ 0 → halted (refused number detail) g ≡ There
+      pub few-rows : ltb (length rows / 8) (written + length ws) ≡ true → halted (refused rows_full 0) g ≡ There
       unfolding passing
-      few-rows number detail h e d = rw (h, e, d)
+      few-rows h = rw h
 
       module _ (fit : written + length ws ≤ length rows / 8) where
         abbrev free : ℕ
         free = length table / 2 - p.names
 
         -- 11
-        pub short-table : (number detail : ℕ) → free < added → number ≡ pool_full → detail ≡ 0 → halted (refused number detail) g ≡ There
+        pub short-table : free < added → halted (refused pool_full 0) g ≡ There
         unfolding passing
-        short-table number detail h e d =
-            rw (le-ltb (length rows / 8) (written + length ws) fit, lt-ltb (length table) (2 * (p.names + length ts)) (omega (arith, w.as_many, w.names-fit)), e, d)
+        short-table h =
+            rw (le-ltb (length rows / 8) (written + length ws) fit, lt-ltb (length table) (2 * (p.names + length ts)) (omega (arith, w.as_many, w.names-fit)))
 
         pub pairs-room : added ≤ free → 2 * (p.names + added) ≤ length table
         pairs-room h = omega (arith, w.names-fit)
@@ -346,10 +332,13 @@ module _ (document : List ℕ) (p : Place) (table : List ℕ) (count added : ℕ
           took-is : took ≡ ws
           took-is = again-asked s z table refl (pairs-room enough) q element name
 
-          pub rows-room : length rows < 18_446_744_073_709_551_616 → Room true (8 * written) (length took) rows
-          rows-room small = record { fits = λ _. omega (arith, ap length took-is); sized = small; counts = λ t. absurd (true≢false t) }
+          pub rows-room : length rows < 18_446_744_073_709_551_616 → Room (8 * written) (length took) rows
+          rows-room small = record { fits = λ _. omega (arith, ap length took-is); sized = small; counts = λ t. omega (arith, t, fit) }
 
-          pub handed : (table' rows' : List ℕ) (kind n : ℕ) → table' ≡ grown p.at p.names table (read s z) → kind ≡ kind_of (read s z) → Chose true (8 * written) took rows rows' n
+          pub rows-none : length rows ≡ 0 → 8 * written ≡ 0
+          rows-none t = omega (arith, t, fit)
+
+          pub handed : (table' rows' : List ℕ) (kind n : ℕ) → table' ≡ grown p.at p.names table (read s z) → kind ≡ kind_of (read s z) → Chose (8 * written) took rows rows' n
               → passed kind n (record { place = record { at = p.at + len; names = p.names + added }; table = table'; rows = rows'; events = events + 1; written = written + n }) ≡ There
           unfolding passing past place_after table_after
           handed table' rows' kind n t k x =
@@ -372,22 +361,22 @@ module _ (document : List ℕ) (p : Place) (table : List ℕ) where
   at_place = items_at p document table
 
   -- what the code's answer says
-  pub sees-refused : (r : Refusal) → bad r.number r.detail ≡ seen document p table → Sees document p table (Seen.Refused r)
-  sees-refused r h = record { outcome-is = h; read_whole = λ rows added len e. absurd (let z : ◌≡◌ {A = ℕ} 0 1 = cc e in omega arith) }
+  pub sees-refused : (r : Refusal) → bad (number_of r) (detail_of r) ≡ seen document p table → Sees document p table (Err r)
+  sees-refused r h = record { outcome-is = h; read_whole = λ x e. absurd (let z : ◌≡◌ {A = ℕ} 0 1 = cc e in omega arith) }
 
-  pub sees-end : incomplete ≡ seen document p table → Sees document p table Seen.End
-  sees-end h = record { outcome-is = h; read_whole = λ rows added len e. absurd (let z : ◌≡◌ {A = ℕ} 0 1 = cc e in omega arith) }
+  pub sees-end : incomplete ≡ seen document p table → Sees document p table (Ok None)
+  sees-end h = record { outcome-is = h; read_whole = λ x e. absurd (let z : ◌≡◌ {A = ℕ} 0 1 = cc e in omega arith) }
 
   -- ---- what is checked first
 
-  pub seen-sizes : (number detail : ℕ) → sizes_bad document table ≡ true → number ≡ bad_size → detail ≡ 0 → bad number detail ≡ seen document p table
+  pub seen-sizes : sizes_bad document table ≡ true → bad bad_size 0 ≡ seen document p table
   unfolding seen
-  seen-sizes number detail a e d = rw (a, e, d)
+  seen-sizes a = rw a
 
   module _ (a : sizes_bad document table ≡ false) where
-    pub seen-place : (number detail : ℕ) → place_bad p document table ≡ true → number ≡ bad_state → detail ≡ 0 → bad number detail ≡ seen document p table
+    pub seen-place : place_bad p document table ≡ true → bad bad_state 0 ≡ seen document p table
     unfolding seen
-    seen-place number detail b e d = rw (a, b, e, d)
+    seen-place b = rw (a, b)
 
     module _ (b : place_bad p document table ≡ false) where
       pub seen_end : p.at ≡ length document → incomplete ≡ seen document p table
@@ -425,10 +414,10 @@ module _ (document : List ℕ) (p : Place) (table : List ℕ) where
           table-small = r.table-small;
         }
 
-        pub sees-whole : (n : ℕ) → m.result ≡ complete n → Sees document p table (Seen.Whole m.rows m.added n)
+        pub sees-whole : (n : ℕ) → m.result ≡ complete n → Sees document p table (Ok (Some (record { rows = m.rows; added = m.added; len = n })))
         sees-whole n k = record {
           outcome-is = sym k ∙ seen-goes;
-          read_whole = λ rows added len h. let x : m.rows ≡ rows = cc h in let y : m.added ≡ added = cc h in rw (← x, ← y) (whole-at n k);
+          read_whole = λ x h. let y : record { rows = m.rows; added = m.added; len = n } ≡ x = cc h in rw (← y) (whole-at n k);
         }
 
 -- ---- what was seen, picked

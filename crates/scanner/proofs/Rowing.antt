@@ -1,14 +1,11 @@
 -- The second pass, row by row: an attribute, and the event's own row.
-use mathlib.Core.List.{List, [], ◌∷◌, ◌++◌, append-nil}
-use mathlib.Core.Option.{Option, none, some}
-use mathlib.Core.Path.{◌≡◌, refl, sym, ap, ◌∙◌}
-use Prim.Native.Nat.{ℕ, ◌+◌, ◌*◌, ◌≤◌, ◌<◌}
-use native.Mathlib.Omega.{arith}
-use borrow.Author.Tests.{ltb-true, ltb-false}
-use lib.Dec.{ltb}
-use lib.ListN.{length, get_or}
-use lib.Seq.{sets}
+use Rattle.std.proofs.Common.{List, [], ◌∷◌, ◌++◌, append-nil, ◌≡◌, refl, sym, ap, ◌∙◌, ℕ, ◌+◌, ◌*◌, ◌≤◌, ◌<◌, arith, ltb-true, ltb-false, ltb, length, get_or}
+use Rattle.std.proofs.Math.Option.{Option, none, some}
+use Rattle.std.proofs.Math.Seq.{sets}
 use Rattle.wire.specs.Token as Token
+use Rattle.wire.specs.Commands.{IsCommand}
+use Rattle.wire.specs.declared.Command.{Command}
+use Rattle.wire.specs.declared.Command.TheVariants as C
 use Rattle.event.specs.declared.Shape.{Shape}
 use Rattle.grammar.specs.Reader.{Read, got}
 use Rattle.grammar.specs.Document.{type_of}
@@ -27,7 +24,8 @@ use Rattle.scanner.specs.declared.fill.Home.{Home}
 use Rattle.scanner.specs.declared.fill.Kept.{Kept}
 use Rattle.scanner.specs.declared.fill.Filled.{Filled}
 use Rattle.scanner.specs.declared.fill.Ahead.{Ahead}
-use Rattle.scanner.specs.Fill.{words_of, pooled_in, kept_pairs, Room, Keeps, Has, Once, Within, SpanFilled, RefFilled, ValueFilled, RowFilled}
+use Rattle.quick.specs.Quick.{words_of}
+use Rattle.scanner.specs.Fill.{pooled_in, kept_pairs, Room, Keeps, Has, Once, Within, SpanFilled, RefFilled, ValueFilled, RowFilled}
 use Rattle.scanner.proofs.Keeping.{keeps-none, keeps-both, room-first, room-then}
 use Rattle.scanner.proofs.Filling.{has-got, has-it, it-has, once-got, once-it}
 
@@ -168,6 +166,22 @@ module _ (h : Home) (s : List ℕ) (k : Kept) (at : ℕ) (table store : List ℕ
             })
 
 -- ---- the event's own row
+
+-- a command that is none of a document and no tag's
+pub no-tag : (n : ℕ) (c : Command) → IsCommand n c → (c ≡ C.StartDocument → ⊥) → (c ≡ C.EndDocument → ⊥) → (c ≡ C.StartTag → ⊥) → (c ≡ C.EndTag → ⊥) → Token.text ≤ n
+no-tag n C.StartDocument i a b d e = absurd (a refl)
+no-tag n C.EndDocument i a b d e = absurd (b refl)
+no-tag n C.StartTag i a b d e = absurd (d refl)
+no-tag n C.EndTag i a b d e = absurd (e refl)
+no-tag n C.Text i a b d e = omega arith
+no-tag n C.Cdata i a b d e = omega arith
+no-tag n C.EntityRef i a b d e = omega arith
+no-tag n C.IgnorableWhitespace i a b d e = omega arith
+no-tag n C.ProcessingInstruction i a b d e = omega arith
+no-tag n C.Comment i a b d e = omega arith
+no-tag n C.DocDecl i a b d e = omega arith
+no-tag n C.Attribute i a b d e = omega arith
+no-tag n (C.Unknown m) i a b d e = omega arith
 
 module _ (h : Home) (s : List ℕ) (k : Kept) (table store : List ℕ) (w : Within s 1 h.base) (kind : ℕ) (q : kind ≡ Token.command (get_or s 0 0))
     (g : Has (λ i. Room h k (adds_item k.names i) table store) (first always k.names s 0)) where

@@ -1,12 +1,5 @@
 -- The two passes, by how the first ended.
-use mathlib.Core.Bool.{Bool, true, false, ◌&&◌, cond}
-use mathlib.Core.List.{List, [], ◌++◌, append-nil}
-use mathlib.Core.Path.{◌≡◌, refl, sym, ap, ◌∙◌}
-use Prim.Native.Nat.{ℕ, zero, suc, ◌+◌, ◌*◌, ◌-◌, ◌/◌, ◌≤◌, ◌<◌}
-use native.Mathlib.Omega.{arith}
-use borrow.Author.Tests.{lt-ltb, le-ltb}
-use lib.Dec.{ltb}
-use lib.ListN.{length}
+use Rattle.std.proofs.Common.{Bool, true, false, ◌&&◌, cond, List, [], ◌++◌, append-nil, ◌≡◌, refl, sym, ap, ◌∙◌, ℕ, zero, suc, ◌+◌, ◌*◌, ◌-◌, ◌/◌, ◌≤◌, ◌<◌, arith, lt-ltb, le-ltb, ltb, length}
 use Rattle.wire.specs.Limits.{max_store}
 use Rattle.wire.specs.Refusal.{rows_full, pool_full, names_full}
 use Rattle.grammar.proofs.Choice.{by_test}
@@ -132,9 +125,9 @@ module _ (finished copied : Bool) (base names used stored : ℕ) (s table store 
       trusted : is ≡ event always names s
       trusted = trusted-event _ s names whole-read
 
-      pub rows_short : (number detail : ℕ) → length rows / 8 < m.rows → number ≡ rows_full → detail ≡ 0 → same (refused number detail) ≡ Whole
+      pub rows_short : length rows / 8 < m.rows → same (refused rows_full 0) ≡ Whole
       unfolding read_by by_outcome hand_out
-      rows_short number detail h a b = let t = rw rows_are at h in rw (ended, lt-ltb (length rows / 8) (count is) t, a, b)
+      rows_short h = let t = rw rows_are at h in rw (ended, lt-ltb (length rows / 8) (count is) t)
 
       module _ (h : m.rows ≤ length rows / 8) where
         enough : ltb (length rows / 8) (count is) ≡ false
@@ -146,11 +139,11 @@ module _ (finished copied : Bool) (base names used stored : ℕ) (s table store 
         pub a-row : 8 ≤ length rows
         a-row = omega (arith, row_room, some-row _ names s whole-read)
 
-        pub pairs-short : (number detail : ℕ) → length table / 2 - names < m.added → number ≡ pool_full → detail ≡ 0 → same (refused number detail) ≡ Whole
+        pub pairs-short : length table / 2 - names < m.added → same (refused pool_full 0) ≡ Whole
         unfolding read_by by_outcome hand_out
-        pairs-short number detail g a b =
+        pairs-short g =
             let t : length table < 2 * (names + length ts) = omega (arith, rw added-are at g, r.names-fit) in
-            rw (ended, enough, lt-ltb (length table) (2 * (names + length ts)) t, a, b)
+            rw (ended, enough, lt-ltb (length table) (2 * (names + length ts)) t)
 
         module _ (g : m.added ≤ length table / 2 - names) where
           pair-room : 2 * (names + length ts) ≤ length table
@@ -159,11 +152,11 @@ module _ (finished copied : Bool) (base names used stored : ℕ) (s table store 
           pairs-enough : ltb (length table) (2 * (names + length ts)) ≡ false
           pairs-enough = le-ltb (length table) (2 * (names + length ts)) pair-room
 
-          pub bytes-short : copied ≡ true → (number detail : ℕ) → length store - used < m.bytes → number ≡ names_full → detail ≡ 0 → same (refused number detail) ≡ Whole
+          pub bytes-short : copied ≡ true → length store - used < m.bytes → same (refused names_full 0) ≡ Whole
           unfolding read_by by_outcome hand_out
-          bytes-short c number detail f a b =
+          bytes-short c f =
               let t : length store < used + lengths ts = omega (arith, rw bytes-are at f, (r.used-fit c).0) in
-              rw (ended, enough, pairs-enough, lt-ltb (length store) (used + lengths ts) t, c, a, b)
+              rw (ended, enough, pairs-enough, lt-ltb (length store) (used + lengths ts) t, c)
 
           module _ (f : copied ≡ true → m.bytes ≤ length store - used) where
             byte-room : copied ≡ true → used + lengths ts ≤ length store

@@ -1,11 +1,6 @@
 -- The second pass over an event: rows one after another, and what is left after each.
-use mathlib.Core.Bool.{true, false}
-use mathlib.Core.List.{List, [], ◌∷◌, ◌++◌, append-nil, append_assoc}
-use mathlib.Core.Path.{◌≡◌, refl, sym, ap, ◌∙◌}
-use Prim.Native.Nat.{ℕ, ◌+◌, ◌*◌, ◌≤◌, ◌<◌}
-use native.Mathlib.Omega.{arith}
-use lib.ListN.{length, length-append}
-use lib.Seq.{sets, length-sets}
+use Rattle.std.proofs.Common.{true, false, List, [], ◌∷◌, ◌++◌, append-nil, append_assoc, ◌≡◌, refl, sym, ap, ◌∙◌, ℕ, ◌+◌, ◌*◌, ◌≤◌, ◌<◌, arith, length, length-append}
+use Rattle.std.proofs.Math.Seq.{sets, length-sets}
 use Rattle.grammar.specs.Grammar.{Span, Item, Items, item, whole, after, attribute}
 use Rattle.grammar.specs.Scan.{adds_item, adds, count, item_words, words}
 use Rattle.grammar.specs.Fits.{ItemFits}

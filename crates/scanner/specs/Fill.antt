@@ -12,13 +12,9 @@ use Rattle.grammar.specs.Endings.{Ended}
 use Rattle.grammar.specs.Trusted.{always}
 use Rattle.scanner.specs.declared.fill.Home.{Home}
 use Rattle.scanner.specs.declared.fill.Kept.{Kept}
-use Rattle.scanner.specs.declared.fill.Words.{Words}
+use Rattle.quick.specs.Quick.{words_of}
 use Rattle.scanner.specs.declared.fill.Filled.{Filled}
 use Rattle.scanner.specs.declared.fill.Ahead.{Ahead}
-use Rattle.scanner.specs.declared.fill.Begun.{Begun}
-
-abbrev pub words_of : Words → List ℕ
-words_of w = w.source ∷ w.a ∷ w.b ∷ []
 
 -- ---- names
 
@@ -148,6 +144,13 @@ pub record Walked (h : Home) (s : List ℕ) (k : Kept) (all : Items) (table tabl
   pub keeps : Keeps h s k (adds k.names (only those)) table table₁ store store₁ k₁
   pub stored : rows₁ ≡ sets rows first (words (pooled_in h) h.base table₁ (only those))
   pub word-is : to ≡ first + 8 * length those
+
+-- the event's own row was written where the place is its first byte; `to` is the word after it, and attributes may follow where `inside`
+pub record Begun : Type 0 where
+  pub next : ℕ
+  pub kept : Kept
+  pub to : ℕ
+  pub inside : Bool
 
 pub record BegunRows (h : Home) (s : List ℕ) (k : Kept) (table table' store store' rows rows' : List ℕ) (from : ℕ) (b : Begun) : Type 0 where
   pub tag : b.inside ≡ in_tag s from

@@ -1,9 +1,11 @@
 -- One event of a query: which of its rows are taken, and what the code's answer says in the terms of the definition.
-use Rattle.std.specs.Prelude.{Bool, true, false, ◌||◌, cond, List, [], ◌∷◌, ◌++◌, ℕ, ◌+◌, ◌*◌, ◌/◌, ◌≤◌, ◌<◌, length, ltb, eqb}
+use Rattle.std.specs.Prelude.{Bool, true, false, ◌||◌, cond, Option, Some, None, Result, Ok, Err, List, [], ◌∷◌, ◌++◌, ℕ, ◌+◌, ◌*◌, ◌/◌, ◌≤◌, ◌<◌, length, ltb, eqb}
 use Rattle.std.proofs.Math.Path.{◌≡◌}
 use Rattle.std.proofs.Common.{◌∙◌, arith}
 use Rattle.std.proofs.lemmas.List.Edits.{sets}
 use Rattle.wire.specs.Refusal.{bad_size, bad_state}
+use Rattle.wire.specs.declared.Refusal.{Refusal}
+use Rattle.wire.specs.Answers.{number_of, detail_of}
 use Rattle.wire.specs.Limits.{max_store, max_table}
 use Rattle.grammar.specs.Grammar.{Items, item, whole, lacks, stops}
 use Rattle.grammar.specs.Scan.{item_words, adds, pairs, Outcome, complete, incomplete, bad, outcome}
@@ -16,9 +18,7 @@ use Rattle.slice_spec.specs.Slice.{Place, sizes_bad, place_bad, items_at}
 use Rattle.slice_spec.specs.Turns.{Turn, passed, halted, passing, turn_by, turn, turn_or_refuse}
 use Rattle.scanner.specs.declared.select.Query.{Query}
 use Rattle.scanner.specs.declared.select.Picked.{Picked}
-use Rattle.scanner.specs.declared.select.Uncounted.{Uncounted}
 use Rattle.scanner.specs.declared.select.Extent.{Extent}
-use Rattle.scanner.specs.declared.select.Seen.{Seen}
 
 -- ---- the query
 
@@ -71,16 +71,16 @@ chosen q document element name (w ∷ ws) =
 abbrev pub grown : ℕ → ℕ → List ℕ → Items → List ℕ
 grown base names table is = sets table (2 * names) (pairs base (adds names is))
 
--- where rows are written, there is room for so many from a word on; else they are counted from 0 on
-pub record Room (write : Bool) (to n : ℕ) (rows : List ℕ) : Type 0 where
-  pub fits : write ≡ true → to + 8 * n ≤ length rows
+-- there is room for so many rows from a word on, where any are lent to write to; else they are counted from 0 on
+pub record Room (to n : ℕ) (rows : List ℕ) : Type 0 where
+  pub fits : 0 < length rows → to + 8 * n ≤ length rows
   pub sized : length rows < 18_446_744_073_709_551_616
-  pub counts : write ≡ false → to ≤ max_store * 8
+  pub counts : length rows ≡ 0 → to ≤ max_store * 8
 
--- so many rows are taken, and stored where they are to be written
-pub record Chose (write : Bool) (to : ℕ) (ws : List Words) (rows rows' : List ℕ) (n : ℕ) : Type 0 where
+-- so many rows are taken, and stored where they have room
+pub record Chose (to : ℕ) (ws : List Words) (rows rows' : List ℕ) (n : ℕ) : Type 0 where
   pub counted : n ≡ length ws
-  pub rows_are : rows' ≡ cond write (sets rows to (concat ws)) rows
+  pub rows_are : rows' ≡ sets rows to (concat ws)
 
 -- ---- one event
 
@@ -95,11 +95,11 @@ abbrev stays : Progress → List ℕ → List ℕ → Progress
 stays g table rows = record { place = g.place; table = table; rows = rows; events = g.events; written = g.written }
 
 -- what the code's answer says: an end and a refusal leave the place as it was
-abbrev pub turn_of : Progress → List ℕ → List ℕ → Picked → Turn
-turn_of g table rows (Picked.Event kind len added n) =
-    passed kind n (record { place = record { at = g.place.at + len; names = g.place.names + added }; table = table; rows = rows; events = g.events + 1; written = g.written + n })
-turn_of g table rows Picked.End = halted done (stays g table rows)
-turn_of g table rows (Picked.Refused r) = halted (refused r.number r.detail) (stays g table rows)
+abbrev pub turn_of : Progress → List ℕ → List ℕ → Result (Option Picked) Refusal → Turn
+turn_of g table rows (Ok (Some e)) =
+    passed e.kind e.rows (record { place = record { at = g.place.at + e.len; names = g.place.names + e.added }; table = table; rows = rows; events = g.events + 1; written = g.written + e.rows })
+turn_of g table rows (Ok None) = halted done (stays g table rows)
+turn_of g table rows (Err r) = halted (refused (number_of r) (detail_of r)) (stays g table rows)
 
 -- the rows that are taken, by the pool's pairs with the event's new names
 unfoldable pub asked : Query → List ℕ → List ℕ → List ℕ → Place → List ℕ → Items → List Words
@@ -136,14 +136,14 @@ seen document p table =
     (cond (place_bad p document table) (bad bad_state 0)
     (cond (eqb p.at (length document)) incomplete (outcome true (items_at p document table))))
 
-abbrev pub seen_of : Seen → Outcome
-seen_of (Seen.Whole rows added len) = complete len
-seen_of Seen.End = incomplete
-seen_of (Seen.Refused r) = bad r.number r.detail
+abbrev pub seen_of : Result (Option Extent) Refusal → Outcome
+seen_of (Ok (Some e)) = complete e.len
+seen_of (Ok None) = incomplete
+seen_of (Err r) = bad (number_of r) (detail_of r)
 
-pub record Sees (document : List ℕ) (p : Place) (table : List ℕ) (r : Seen) : Type 0 where
+pub record Sees (document : List ℕ) (p : Place) (table : List ℕ) (r : Result (Option Extent) Refusal) : Type 0 where
   pub outcome-is : seen_of r ≡ seen document p table
-  pub read_whole : (rows added len : ℕ) → r ≡ Seen.Whole rows added len → Whole document p table (items_at p document table) rows added
+  pub read_whole : (e : Extent) → r ≡ Ok (Some e) → Whole document p table (items_at p document table) e.rows e.added
 
 -- ---- without counting
 
@@ -152,9 +152,9 @@ pub data Tried : Type 0 where
   turned : Turn → Tried
   unsure : Progress → Tried
 
-abbrev pub uncounted_of : Progress → List ℕ → List ℕ → Uncounted → Tried
-uncounted_of g table rows (Uncounted.Picked p) = turned (turn_of g table rows p)
-uncounted_of g table rows Uncounted.Unsure = unsure (stays g table rows)
+abbrev pub uncounted_of : Progress → List ℕ → List ℕ → Option (Result (Option Picked) Refusal) → Tried
+uncounted_of g table rows (Some p) = turned (turn_of g table rows p)
+uncounted_of g table rows None = unsure (stays g table rows)
 
 -- the rows left are fewer than could be taken; where more were written than there are, it is 10 whatever is taken
 abbrev pub in_doubt : ℕ → ℕ → ℕ → Bool

@@ -11,9 +11,11 @@ ghost use Rattle.grammar.specs.Scan.{adds_ref, adds_value, adds_item, count};
 ghost use Rattle.grammar.specs.Attributes.{is_attribute};
 ghost use Rattle.grammar.specs.Trusted.{always};
 ghost use Rattle.grammar.specs.Turn.{rest};
-ghost use Rattle.scanner.specs.Fill.{words_of, Room, Keeps, Has, Once, Within, SpanFilled, RefFilled, ValueFilled, RowFilled, Ready, ReadyAt, FilledRows, BegunRows, OneFilled, rows_from, others_from};
+ghost use Rattle.quick.specs.Quick.{words_of};
+ghost use Rattle.scanner.specs.Fill.{Room, Keeps, Has, Once, Within, SpanFilled, RefFilled, ValueFilled, RowFilled, Ready, ReadyAt, FilledRows, BegunRows, OneFilled, rows_from, others_from};
 
 use event::Shape;
+use quick::Flat;
 use wire::{Command, Type};
 
 // Where new names go: they stay in the input, which stands in its store from base on, or their bytes are copied to the name store.
@@ -32,59 +34,38 @@ pub struct Kept {
 
 // ---- words
 
-// Three words of a row: a span's source, start and length, or what the value's type has in their place.
-#[derive(Clone, Copy)]
-pub struct Words {
-    pub source: u32,
-    pub a: u32,
-    pub b: u32,
-}
-
-fn no_words() -> Words
-    ensures { words_of result ≡ 0 ∷ 0 ∷ 0 ∷ [] }
-{
-    Words {
-        source: 0,
-        a: 0,
-        b: 0,
-    }
-}
-
-fn span_words(base: usize, start: usize, len: usize) -> Words
+// The words of a span; the event starts at base.
+fn span_words(base: usize, start: usize, len: usize) -> Flat
     requires { base + (start + len) ≤ max_store }
     ensures { words_of result ≡ 0 ∷ (base + start) ∷ len ∷ [] }
 {
-    Words {
+    Flat {
         source: 0,
         a: (base + start) as u32,
         b: len as u32,
     }
 }
 
-// The source of a span that a pair of the pool names.
-fn pooled(copied: bool) -> u32
-    ensures { result ≡ cond copied 1 0 }
-{
-    if copied {
-        return 1;
-    }
-    0
-}
-
 // The pair of a pool entry, as a span of its store.
-fn pooled_words(copied: bool, table: &[u32], index: usize) -> Words
+fn pooled_words(copied: bool, table: &[u32], index: usize) -> Flat
     requires { 2 * index + 1 < length table.now }
     ensures { words_of result ≡ cond copied 1 0 ∷ get_or table.now (2 * index) 0 ∷ get_or table.now (2 * index + 1) 0 ∷ [] }
 {
-    Words {
-        source: pooled(copied),
+    Flat {
+        source: copied as u32,
         a: table[2 * index],
         b: table[2 * index + 1],
     }
 }
 
-// The eight words of a row, from a place on.
-fn put_row(rows: &mut [u32], to: usize, kind: u32, name: Words, type_: u32, value: Words)
+const NO_WORDS: Flat = Flat {
+    source: 0,
+    a: 0,
+    b: 0,
+};
+
+// The eight words of a row, from a place on. One by one: by copy_from_slice of an array of eight, the quick way needs 25% more instructions.
+fn put_row(rows: &mut [u32], to: usize, kind: u32, name: Flat, type_: u32, value: Flat)
     requires { to + 8 ≤ length rows.old }
     ensures { rows.new ≡ sets rows.old to (kind ∷ (words_of name ++ (type_ ∷ words_of value))) }
 {
@@ -98,34 +79,10 @@ fn put_row(rows: &mut [u32], to: usize, kind: u32, name: Words, type_: u32, valu
     rows[to + 7] = value.b;
 }
 
-// ---- fields
-
-// A length or an index.
-fn field(s: &[u8], at: usize) -> usize
-    requires { at + 2 ≤ length s.now }
-    ensures { (u16 s.now at ≡ got result (at + 2)) × (result ≤ max_unsigned_short) }
-{
-    (s[at] as usize) * 256 + (s[at + 1] as usize)
-}
-
-fn be32_at(s: &[u8], at: usize) -> u32
-    requires { at + 4 ≤ length s.now }
-    ensures { result ≡ u32_at s.now at }
-{
-    wire::be32(s[at], s[at + 1], s[at + 2], s[at + 3])
-}
-
 // ---- names
 
-fn put_pair(table: &mut [u32], names: usize, start: u32, len: u32)
-    requires { 2 * names + 2 ≤ length table.old }
-    ensures { table.new ≡ sets table.old (2 * names) (start ∷ len ∷ []) }
-{
-    table[2 * names] = start;
-    table[2 * names + 1] = len;
-}
-
 // A new name joins the pool while there is room.
+// The table and the name store stay two parameters: in one struct, every contract would also say what each is still lent from.
 fn keep_new(
     s: &[u8],
     start: usize,
@@ -139,24 +96,23 @@ fn keep_new(
     requires room { Room home kept (adds_ref kept.names (new (record { start = start; len = len }))) table.old store.old }
     ensures { Keeps home s.now kept (adds_ref kept.names (new (record { start = start; len = len }))) table.old table.new store.old store.new result }
 {
-    let names = kept.names;
-    let used = kept.used;
+    let Kept { names, used } = kept;
     if wire::INTERNED_NEW as usize <= names {
         return kept;
     }
     if home.copied {
-        put_pair(table, names, used as u32, len as u32);
-        let end = start + len;
-        byte_copy::copy(&s[start..end], store, used);
-        return Kept {
+        table[2 * names..2 * names + 2].copy_from_slice(&[used as u32, len as u32]);
+        byte_copy::copy(&s[start..start + len], store, used);
+        Kept {
             names: names + 1,
             used: used + len,
-        };
-    }
-    put_pair(table, names, (home.base + start) as u32, len as u32);
-    Kept {
-        names: names + 1,
-        used,
+        }
+    } else {
+        table[2 * names..2 * names + 2].copy_from_slice(&[(home.base + start) as u32, len as u32]);
+        Kept {
+            names: names + 1,
+            used,
+        }
     }
 }
 
@@ -165,7 +121,7 @@ fn keep_new(
 // Three words of a row, the place after what they were read from, and what is kept then.
 #[derive(Clone, Copy)]
 pub struct Filled {
-    pub words: Words,
+    pub words: Flat,
     pub next: usize,
     pub kept: Kept,
 }
@@ -176,9 +132,9 @@ fn name(s: &[u8], at: usize, home: Home, table: &mut [u32], store: &mut [u8], ke
     requires has { Has (λ r. Room home kept (adds_ref kept.names r) table.old store.old) (name always kept.names s.now at) }
     ensures { Once (RefFilled home s.now kept table.old table.new store.old store.new result) (name always kept.names s.now at) }
 {
-    let index = field(s, at);
+    let index = u16::from_be_bytes([s[at], s[at + 1]]) as usize;
     if index == wire::INTERNED_NEW as usize {
-        let len = field(s, at + 2);
+        let len = u16::from_be_bytes([s[at + 2], s[at + 3]]) as usize;
         let start = at + 4;
         let more = keep_new(s, start, len, home, table, store, kept);
         return Filled {
@@ -200,7 +156,7 @@ fn text(s: &[u8], at: usize, base: usize, kept: Kept) -> Filled
     requires has { Has (λ t. Unit {0}) (blob s.now at) }
     ensures { Once (SpanFilled base kept result) (blob s.now at) }
 {
-    let len = field(s, at);
+    let len = u16::from_be_bytes([s[at], s[at + 1]]) as usize;
     let start = at + 2;
     Filled {
         words: span_words(base, start, len),
@@ -225,34 +181,28 @@ fn value(
     ensures { Once (ValueFilled home s.now kept table.old table.new store.old store.new result) (value always kept.names type_ s.now at) }
 {
     match event::shape_of(type_) {
-        Shape::Nothing => Filled {
-            words: no_words(),
-            next: at,
-            kept,
-        },
-        Shape::String => text(s, at, home.base, kept),
+        Shape::String | Shape::Blob => text(s, at, home.base, kept),
         Shape::Interned => name(s, at, home, table, store, kept),
-        Shape::Blob => text(s, at, home.base, kept),
         Shape::Word => Filled {
-            words: Words {
+            words: Flat {
                 source: 0,
                 a: 0,
-                b: be32_at(s, at),
+                b: wire::be32(s[at], s[at + 1], s[at + 2], s[at + 3]),
             },
             next: at + 4,
             kept,
         },
         Shape::Pair => Filled {
-            words: Words {
+            words: Flat {
                 source: 0,
-                a: be32_at(s, at),
-                b: be32_at(s, at + 4),
+                a: wire::be32(s[at], s[at + 1], s[at + 2], s[at + 3]),
+                b: wire::be32(s[at + 4], s[at + 5], s[at + 6], s[at + 7]),
             },
             next: at + 8,
             kept,
         },
-        Shape::Unknown => Filled {
-            words: no_words(),
+        Shape::Nothing | Shape::Unknown => Filled {
+            words: NO_WORDS,
             next: at,
             kept,
         },
@@ -285,23 +235,19 @@ fn attribute(
     ensures { Once (RowFilled home s.now kept table.old table.new store.old store.new rows.old rows.new to result) (attribute always kept.names s.now at) }
 {
     let n = name(s, at + 1, home, table, store, kept);
-    let named = n.kept;
     let type_ = (s[at] / 16) as u32;
-    let v = value(s, n.next, home, table, store, named, type_);
-    let first = n.words;
-    let second = v.words;
+    let v = value(s, n.next, home, table, store, n.kept, type_);
     put_row(
         rows,
         to,
-        Command::ATTRIBUTE,
-        first,
+        Command::Attribute.number(),
+        n.words,
         quick::row_type(type_),
-        second,
+        v.words,
     );
-    let valued = v.kept;
     Ahead {
         next: v.next,
-        kept: valued,
+        kept: v.kept,
     }
 }
 
@@ -320,39 +266,38 @@ fn own(
     requires in_bounds { 8 ≤ length rows.old }
     ensures { Once (RowFilled home s.now kept table.old table.new store.old store.new rows.old rows.new 0 result) (first always kept.names s.now 0) }
 {
-    if kind < Command::START_TAG {
-        put_row(rows, 0, kind, no_words(), 0, no_words());
-        return Ahead { next: 1, kept };
+    match Command::from(kind) {
+        Command::StartDocument | Command::EndDocument => {
+            put_row(rows, 0, kind, NO_WORDS, 0, NO_WORDS);
+            Ahead { next: 1, kept }
+        }
+        Command::StartTag | Command::EndTag => {
+            let n = name(s, 1, home, table, store, kept);
+            put_row(rows, 0, kind, n.words, 0, NO_WORDS);
+            Ahead {
+                next: n.next,
+                kept: n.kept,
+            }
+        }
+        _ => {
+            let string = Type::String.number();
+            if (s[0] / 16) as u32 != string {
+                put_row(rows, 0, kind, NO_WORDS, string, NO_WORDS);
+                return Ahead { next: 1, kept };
+            }
+            let t = text(s, 1, home.base, kept);
+            put_row(rows, 0, kind, NO_WORDS, string, t.words);
+            Ahead { next: t.next, kept }
+        }
     }
-    if kind < Command::TEXT {
-        let n = name(s, 1, home, table, store, kept);
-        let words = n.words;
-        let named = n.kept;
-        put_row(rows, 0, kind, words, 0, no_words());
-        return Ahead {
-            next: n.next,
-            kept: named,
-        };
-    }
-    let type_ = (s[0] / 16) as u32;
-    if type_ == Type::STRING {
-        let t = text(s, 1, home.base, kept);
-        let words = t.words;
-        put_row(rows, 0, kind, no_words(), Type::STRING, words);
-        return Ahead { next: t.next, kept };
-    }
-    put_row(rows, 0, kind, no_words(), Type::STRING, no_words());
-    Ahead { next: 1, kept }
 }
 
 // Whether an attribute stands at a place.
+#[tactic(auto, using(std::proofs::lemmas::Bool::Decides::nat_tests), unfolding(grammar::specs::Attributes::is_attribute, wire::specs::Token::command))]
 pub(crate) fn is_attribute(s: &[u8], at: usize) -> bool
     ensures { result ≡ is_attribute s.now at }
 {
-    if at < s.len() {
-        return (s[at] % 16) as u32 == Command::ATTRIBUTE;
-    }
-    false
+    at < s.len() && (s[at] % 16) as u32 == Command::Attribute.number()
 }
 
 // The attributes from a place on, as many as have room from the word `first` on.
@@ -373,6 +318,7 @@ fn rest(
     let mut at = from;
     let mut kept = start;
     let mut to = first;
+    // No iterator goes over attributes: each tells by its bytes where the next one starts.
     while is_attribute(s, at) {
         if rows.len() - to < 8 {
             return Ahead { next: at, kept };
@@ -383,47 +329,6 @@ fn rest(
         to += 8;
     }
     Ahead { next: at, kept }
-}
-
-// The event's own row was written where the place is its first byte; `to` is the word after it. inside says that attributes may follow.
-#[derive(Clone, Copy)]
-pub struct Begun {
-    pub next: usize,
-    pub kept: Kept,
-    pub to: usize,
-    pub inside: bool,
-}
-
-fn begin(
-    s: &[u8],
-    from: usize,
-    home: Home,
-    table: &mut [u32],
-    store: &mut [u8],
-    kept: Kept,
-    rows: &mut [u32],
-) -> Begun
-    requires from_in_bounds { (from ≤ length s.now) × (8 ≤ length rows.old) }
-    requires ready { Ready home s.now kept (rows_from kept.names s.now from) table.old store.old }
-    ensures { BegunRows home s.now kept table.old table.new store.old store.new rows.old rows.new from result }
-{
-    if from != 0 {
-        return Begun {
-            next: from,
-            kept,
-            to: 0,
-            inside: true,
-        };
-    }
-    let kind = (s[0] % 16) as u32;
-    let ahead = own(s, kind, home, table, store, kept, rows);
-    let named = ahead.kept;
-    Begun {
-        next: ahead.next,
-        kept: named,
-        to: 8,
-        inside: kind == Command::START_TAG,
-    }
 }
 
 // The rows from a place on, as many as have room: those of the event, or attributes of it.
@@ -440,15 +345,15 @@ pub(crate) fn fill(
     requires ready { Ready home s.now kept (rows_from kept.names s.now from) table.old store.old }
     ensures { FilledRows home s.now kept (rows_from kept.names s.now from) table.old table.new store.old store.new rows.old rows.new from 0 (others_from s.now from result) result }
 {
-    let begun = begin(s, from, home, table, store, kept, rows);
-    let more = begun.kept;
-    if begun.inside {
-        return rest(s, begun.next, home, table, store, more, rows, begun.to);
+    if from != 0 {
+        return rest(s, from, home, table, store, kept, rows, 0);
     }
-    Ahead {
-        next: begun.next,
-        kept: more,
+    let kind = (s[0] % 16) as u32;
+    let tag = own(s, kind, home, table, store, kept, rows);
+    if kind != Command::StartTag.number() {
+        return tag;
     }
+    rest(s, tag.next, home, table, store, tag.kept, rows, 8)
 }
 
 // One row from a place on, of an event whose names stay where they are.
@@ -458,9 +363,9 @@ pub(crate) fn one(
     base: usize,
     table: &mut [u32],
     names: usize,
-    row: &mut [u32],
+    row: &mut [u32; 8],
 ) -> Ahead
-    requires from_in_bounds { (from ≤ length s.now) × (length row.old ≡ 8) }
+    requires from_in_bounds { from ≤ length s.now }
     requires ready_at { ReadyAt base s.now names (rows_from names s.now from) table.old }
     requires nonzero { 0 < count (rows_from names s.now from) }
     ensures { OneFilled base s.now names (rows_from names s.now from) table.old table.new row.new from (others_from s.now from result) result }

@@ -10,81 +10,54 @@ ghost use Rattle.std.specs.Prelude.{◌≡◌};
 ghost use Rattle.quick_step.specs.Step.{step};
 ghost use Rattle.scanner.specs.Step.{Placed, read_by, step_of};
 
-use extent::Outcome;
 use fill::{Home, Kept};
 use wire::Refusal;
 
 // ---- one event
 
-// The spare words of an event lie where a refusal's numbers do, so that the compiler copies no word of it in two parts, for which
-// a read right after it would wait (docs/BENCHMARKS.md).
-#[derive(Clone, Copy)]
-pub enum Stepped {
-    Event {
-        spare: Refusal,
-        bytes: usize,
-        rows: usize,
-        len: usize,
-        added: usize,
-    },
-    Incomplete,
-    Refused(Refusal),
+// An event of so many rows and bytes, which adds so many names of so many bytes to the pool.
+#[derive(Clone, Copy, Debug, PartialEq, Eq)]
+pub struct Event {
+    pub rows: usize,
+    pub len: usize,
+    pub added: usize,
+    pub bytes: usize,
 }
 
 // The two passes over the event that stands in s.
 fn read(
     s: &[u8],
-    base: usize,
     finished: bool,
-    copied: bool,
-    names: usize,
-    used: usize,
+    home: Home,
+    kept: Kept,
     stored: usize,
     table: &mut [u32],
     store: &mut [u8],
     rows: &mut [u32],
-) -> Stepped
-    requires { Placed base copied names used stored s.now table.old store.old }
-    ensures { step_of table.new store.new rows.new result ≡ read_by finished copied base names used s.now table.old store.old rows.old }
+) -> Result<Option<Event>, Refusal>
+    requires { Placed home.base home.copied kept.names kept.used stored s.now table.old store.old }
+    ensures { step_of table.new store.new rows.new result ≡ read_by finished home.copied home.base kept.names kept.used s.now table.old store.old rows.old }
 {
-    let m = extent::measure(s, finished, names, stored, table);
-    let outcome = m.outcome;
-    match outcome {
-        Outcome::Incomplete => Stepped::Incomplete,
-        Outcome::Bad(r) => Stepped::Refused(r),
-        Outcome::Complete(len) => {
-            if rows.len() / 8 < m.rows {
-                return Stepped::Refused(Refusal::new(Refusal::ROWS_FULL));
-            }
-            if table.len() / 2 - names < m.added {
-                return Stepped::Refused(Refusal::new(Refusal::POOL_FULL));
-            }
-            if copied {
-                if store.len() - used < m.bytes {
-                    return Stepped::Refused(Refusal::new(Refusal::NAMES_FULL));
-                }
-            }
-            fill::fill(
-                s,
-                0,
-                Home { base, copied },
-                table,
-                store,
-                Kept { names, used },
-                rows,
-            );
-            Stepped::Event {
-                spare: Refusal {
-                    number: 0,
-                    detail: 0,
-                },
-                rows: m.rows,
-                len,
-                added: m.added,
-                bytes: m.bytes,
-            }
-        }
+    let m = extent::measure(s, finished, kept.names, stored, table);
+    let Some(len) = m.outcome? else {
+        return Ok(None);
+    };
+    if rows.len() / 8 < m.rows {
+        return Err(Refusal::RowsFull);
     }
+    if table.len() / 2 - kept.names < m.added {
+        return Err(Refusal::PoolFull);
+    }
+    if home.copied && store.len() - kept.used < m.bytes {
+        return Err(Refusal::NamesFull);
+    }
+    fill::fill(s, 0, home, table, store, kept, rows);
+    Ok(Some(Event {
+        rows: m.rows,
+        len,
+        added: m.added,
+        bytes: m.bytes,
+    }))
 }
 
 // ---- the step: what it checks first, the quick way, the two passes
@@ -100,16 +73,19 @@ pub fn step_read(
     table: &mut [u32],
     store: &mut [u8],
     rows: &mut [u32],
-) -> Stepped
+) -> Result<Option<Event>, Refusal>
     ensures { step_of table.new store.new rows.new result ≡ step s.now base finished copied names used table.old store.old rows.old }
 {
-    let first = quick_step::check(base, s.len(), copied, store.len(), table.len(), names, used);
-    if first.refusal != 0 {
-        return Stepped::Refused(Refusal::new(first.refusal));
-    }
-    let stored = first.stored;
+    let stored = quick_step::check(base, s.len(), copied, store.len(), table.len(), names, used)?;
     read(
-        s, base, finished, copied, names, used, stored, table, store, rows,
+        s,
+        finished,
+        Home { base, copied },
+        Kept { names, used },
+        stored,
+        table,
+        store,
+        rows,
     )
 }
 
@@ -126,21 +102,16 @@ pub fn step(
     table: &mut [u32],
     store: &mut [u8],
     rows: &mut [u32],
-) -> Stepped
+) -> Result<Option<Event>, Refusal>
     ensures { step_of table.new store.new rows.new result ≡ step s.now base finished copied names used table.old store.old rows.old }
 {
-    let taken = quick_step::step_quickly(s, base, copied, names, used, table, store, rows);
-    if taken.len == 0 {
-        return step_read(s, base, finished, copied, names, used, table, store, rows);
-    }
-    Stepped::Event {
-        spare: Refusal {
-            number: 0,
-            detail: 0,
-        },
-        rows: taken.rows,
-        len: taken.len,
-        added: 0,
-        bytes: 0,
+    match quick_step::step_quickly(s, base, copied, names, used, table, store, rows) {
+        Some(taken) => Ok(Some(Event {
+            rows: taken.rows,
+            len: taken.len,
+            added: 0,
+            bytes: 0,
+        })),
+        None => step_read(s, base, finished, copied, names, used, table, store, rows),
     }
 }

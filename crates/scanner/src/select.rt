@@ -10,7 +10,6 @@ ghost use Rattle.slice_spec.specs.Turns.{turn_or_refuse};
 ghost use Rattle.scanner.specs.Fill.{ReadyAt};
 ghost use Rattle.scanner.specs.Select.{query_of, most_of, takes_all, takes_one, taken, chosen, rows_of, grown, Room, Chose, place_of, asked_at, WholeAt, progress, turn_of, passes, Sees, uncounted_of, surely, uncounted};
 
-use extent::Outcome;
 use wire::{Command, Refusal};
 
 // What is asked for: attributes of a name, of elements of a name; or such elements with all their attributes.
@@ -22,166 +21,131 @@ pub enum Query {
     AllAttributesOf,
 }
 
-// An event was consumed, and so many rows of it were written; or the input is at its end.
-#[derive(Clone, Copy)]
-pub enum Picked {
-    Event {
-        kind: u32,
-        len: usize,
-        added: usize,
-        rows: usize,
-    },
-    End,
-    Refused(Refusal),
+impl Query {
+    // Whether it takes the tag's row and all its attributes.
+    fn takes_all(self) -> bool
+        ensures { result ≡ takes_all self }
+    {
+        matches!(self, Query::AttributesOf | Query::AllAttributesOf)
+    }
+
+    // Whether it takes one row at most.
+    fn takes_one(self) -> bool
+        ensures { result ≡ takes_one self }
+    {
+        matches!(self, Query::FindAttribute)
+    }
+
+    // No more rows than these are taken of an event of so many.
+    fn most_taken(self, count: usize) -> usize
+        ensures { result ≡ most_of self count }
+    {
+        if self.takes_one() { 1 } else { count }
+    }
 }
 
-// What is picked without counting; or only counting tells whether the rows left are enough.
+// A query, and the element's and the attribute's name that it asks for.
 #[derive(Clone, Copy)]
-pub enum Uncounted {
-    Picked(Picked),
-    Unsure,
+struct Wanted<'a> {
+    query: Query,
+    element: &'a [u8],
+    name: &'a [u8],
 }
 
-// What lies at a place: an event of so many rows, new names and bytes, or the end.
+// Where an event starts: the place in its document, and how many names the pool has before it.
 #[derive(Clone, Copy)]
-enum Seen {
-    Whole {
-        rows: usize,
-        added: usize,
-        len: usize,
-    },
-    End,
-    Refused(Refusal),
+struct Start<'a> {
+    document: &'a [u8],
+    at: usize,
+    names: usize,
+}
+
+// An event that was consumed: its kind, its bytes, the names that it adds to the pool, and how many rows of it were written.
+#[derive(Clone, Copy, Debug, PartialEq, Eq)]
+pub struct Picked {
+    pub kind: u32,
+    pub len: usize,
+    pub added: usize,
+    pub rows: usize,
 }
 
 // ---- which rows
 
 // Whether a row has this name, which lies in the document.
-fn is_named(document: &[u8], row: &[u32], name: &[u8]) -> bool
-    requires { length row.now ≡ 8 }
+fn is_named(document: &[u8], row: &[u32; 8], name: &[u8]) -> bool
     ensures { result ≡ named document.now name.now row.now }
 {
     if event::has_name(row[0]) {
-        return equal_bytes::same_bytes(event::text(document, row[1], row[2], row[3]), name);
+        equal_bytes::same_bytes(event::text(document, row[1], row[2], row[3]), name)
+    } else {
+        name.is_empty()
     }
-    name.len() == 0
 }
 
 // Whether it is the start tag of an element of this name.
-fn is_element(document: &[u8], row: &[u32], element: &[u8]) -> bool
-    requires { length row.now ≡ 8 }
+#[tactic(auto, using(std::proofs::lemmas::Bool::Decides::nat_tests), unfolding(slice_spec::specs::Queries::is_element))]
+fn is_element(document: &[u8], row: &[u32; 8], element: &[u8]) -> bool
     ensures { result ≡ is_element document.now element.now row.now }
 {
-    if row[0] == Command::START_TAG {
-        return is_named(document, row, element);
-    }
-    false
+    row[0] == Command::StartTag.number() && is_named(document, row, element)
 }
 
-// Whether a query takes the tag's row and all its attributes.
-fn takes_all(query: Query) -> bool
-    ensures { result ≡ takes_all query }
-{
-    match query {
-        Query::FindAttribute => false,
-        Query::AttributesOf => true,
-        Query::FindAllAttributes => false,
-        Query::AllAttributesOf => true,
-    }
-}
+// ---- rows that are taken are counted, and stored where rows are lent to write to
 
-// Whether it takes one row at most.
-fn takes_one(query: Query) -> bool
-    ensures { result ≡ takes_one query }
+// Without any words to write to, rows are only counted.
+fn put_taken(rows: &mut [u32], to: usize, row: &[u32; 8])
+    requires { 0 < length rows.old → to + 8 ≤ length rows.old }
+    ensures { rows.new ≡ sets rows.old to row.now }
 {
-    match query {
-        Query::FindAttribute => true,
-        Query::AttributesOf => false,
-        Query::FindAllAttributes => false,
-        Query::AllAttributesOf => false,
-    }
-}
-
-// ---- rows that are taken are counted, and stored where they are to be written
-
-// The first n words of one slice, in another from a place on.
-fn put_words(to: &mut [u32], at: usize, words: &[u32], n: usize)
-    requires n_in_bounds { n ≤ length words.now }
-    requires n_in_bounds_2 { at + n ≤ length to.old }
-    ensures { to.new ≡ sets to.old at (take n words.now) }
-{
-    let mut i = 0;
-    while i < n {
-        to[at + i] = words[i];
-        i += 1;
-    }
-}
-
-fn put_taken(write: bool, rows: &mut [u32], to: usize, row: &[u32])
-    requires to_in_bounds { write ≡ true → to + 8 ≤ length rows.old }
-    requires row_len { length row.now ≡ 8 }
-    ensures { rows.new ≡ cond write (sets rows.old to row.now) rows.old }
-{
-    if write {
-        put_words(rows, to, row, 8);
+    if !rows.is_empty() {
+        rows[to..to + 8].copy_from_slice(row);
     }
 }
 
 // Whether an attribute is taken by a query that still looks for one: every one, or those of this name.
-fn is_taken(looking: bool, all: bool, document: &[u8], row: &[u32], name: &[u8]) -> bool
-    requires { length row.now ≡ 8 }
-    ensures { result ≡ (looking && (all || named document.now name.now row.now)) }
+fn is_taken(looking: bool, wanted: Wanted, document: &[u8], row: &[u32; 8]) -> bool
+    ensures { result ≡ (looking && (takes_all wanted.entry.query || named document.now wanted.entry.name.now row.now)) }
 {
-    if looking {
-        if all {
-            return true;
-        }
-        return is_named(document, row, name);
-    }
-    false
+    looking && (wanted.query.takes_all() || is_named(document, row, wanted.name))
 }
 
 // The attributes from a place on: their new names are kept, and how many are taken. still says that there are no new names.
 fn take_rest(
+    wanted: Wanted,
+    start: Start,
     s: &[u8],
     from: usize,
-    base: usize,
     table: &mut [u32],
-    start: usize,
-    document: &[u8],
-    name: &[u8],
     look: bool,
-    all: bool,
-    one: bool,
     still: bool,
-    write: bool,
     rows: &mut [u32],
     to: usize,
 ) -> usize
     requires from_nonzero { (0 < from) × (from ≤ length s.now) }
-    requires ready_at { ReadyAt base s.now start (rest always s.now start from) table.old }
-    requires from_len { still ≡ true → length (adds start (rest always s.now start from)) ≡ 0 }
-    requires room { Room write to (length (cond look (taken all one document.now name.now (rows_of base (grown base start table.old (rest always s.now start from)) (rest always s.now start from))) [])) rows.old }
+    requires ready_at { ReadyAt start.at s.now start.names (rest always s.now start.names from) table.old }
+    requires from_len { still ≡ true → length (adds start.names (rest always s.now start.names from)) ≡ 0 }
+    requires room { Room to (length (cond look (taken (takes_all wanted.query) (takes_one wanted.query) start.document.now wanted.name.now (rows_of start.at (grown start.at start.names table.old (rest always s.now start.names from)) (rest always s.now start.names from))) [])) rows.old }
     ensures few { result ≤ length s.now }
-    ensures names { table.new ≡ grown base start table.old (rest always s.now start from) }
-    ensures rows { Chose write to (cond look (taken all one document.now name.now (rows_of base (grown base start table.old (rest always s.now start from)) (rest always s.now start from))) []) rows.old rows.new result }
+    ensures names { table.new ≡ grown start.entry.at start.entry.names table.old (rest always s.now start.entry.names from) }
+    ensures rows { Chose to (cond look (taken (takes_all wanted.entry.query) (takes_one wanted.entry.query) start.entry.document.now wanted.entry.name.now (rows_of start.entry.at (grown start.entry.at start.entry.names table.old (rest always s.now start.entry.names from)) (rest always s.now start.entry.names from))) []) rows.old rows.new result }
 {
+    let one = wanted.query.takes_one();
     let mut at = from;
-    let mut names = start;
+    let mut names = start.names;
     let mut looking = look;
     let mut count = 0;
     let mut row = [0u32; 8];
+    // No iterator goes over attributes: each tells by its bytes where the next one starts.
     while crate::fill::is_attribute(s, at) {
         // no row is looked for, and no name is left to keep
-        if !looking & still {
+        if !looking && still {
             return count;
         }
-        let ahead = crate::fill::one(s, at, base, table, names, &mut row);
-        let kept = ahead.kept;
-        names = kept.names;
+        let ahead = crate::fill::one(s, at, start.at, table, names, &mut row);
+        names = ahead.kept.names;
         at = ahead.next;
-        if is_taken(looking, all, document, &row, name) {
-            put_taken(write, rows, to + 8 * count, &row);
+        if is_taken(looking, wanted, start.document, &row) {
+            put_taken(rows, to + 8 * count, &row);
             count += 1;
             looking = !one;
         }
@@ -190,13 +154,12 @@ fn take_rest(
 }
 
 // The tag's own row, where it is taken.
-fn take_first(own: bool, write: bool, rows: &mut [u32], to: usize, row: &[u32]) -> usize
-    requires to_in_bounds { own ≡ true → write ≡ true → to + 8 ≤ length rows.old }
-    requires row_len { length row.now ≡ 8 }
-    ensures { Chose write to (cond own (row.now ∷ []) []) rows.old rows.new result }
+fn take_first(own: bool, rows: &mut [u32], to: usize, row: &[u32; 8]) -> usize
+    requires { own ≡ true → 0 < length rows.old → to + 8 ≤ length rows.old }
+    ensures { Chose to (cond own (row.now ∷ []) []) rows.old rows.new result }
 {
     if own {
-        put_taken(write, rows, to, row);
+        put_taken(rows, to, row);
         return 1;
     }
     0
@@ -211,50 +174,44 @@ pub struct Took {
 
 // The event's new names are kept, and the rows that are taken. still says that it adds none.
 fn take_event(
-    query: Query,
-    element: &[u8],
-    name: &[u8],
-    document: &[u8],
+    wanted: Wanted,
+    start: Start,
     s: &[u8],
-    base: usize,
     table: &mut [u32],
-    names: usize,
     still: bool,
-    write: bool,
     rows: &mut [u32],
     to: usize,
 ) -> Took
-    requires ready_at { ReadyAt base s.now names (event always names s.now) table.old }
-    requires s_len { still ≡ true → length (adds names (event always names s.now)) ≡ 0 }
-    requires room { Room write to (length (chosen query document.now element.now name.now (rows_of base (grown base names table.old (event always names s.now)) (event always names s.now)))) rows.old }
-    requires to_value { write ≡ false → to ≡ 0 }
-    ensures rows { Chose write to (chosen query document.now element.now name.now (rows_of base (grown base names table.old (event always names s.now)) (event always names s.now))) rows.old rows.new result.rows }
-    ensures kind { result.kind ≡ kind_of (event always names s.now) }
-    ensures names { table.new ≡ grown base names table.old (event always names s.now) }
+    requires ready_at { ReadyAt start.at s.now start.names (event always start.names s.now) table.old }
+    requires s_len { still ≡ true → length (adds start.names (event always start.names s.now)) ≡ 0 }
+    requires room { Room to (length (chosen wanted.query start.document.now wanted.element.now wanted.name.now (rows_of start.at (grown start.at start.names table.old (event always start.names s.now)) (event always start.names s.now)))) rows.old }
+    requires to_value { length rows.old ≡ 0 → to ≡ 0 }
+    ensures rows { Chose to (chosen wanted.entry.query start.entry.document.now wanted.entry.element.now wanted.entry.name.now (rows_of start.entry.at (grown start.entry.at start.entry.names table.old (event always start.entry.names s.now)) (event always start.entry.names s.now))) rows.old rows.new result.rows }
+    ensures kind { result.kind ≡ kind_of (event always start.entry.names s.now) }
+    ensures names { table.new ≡ grown start.entry.at start.entry.names table.old (event always start.entry.names s.now) }
 {
     let mut row = [0u32; 8];
-    let ahead = crate::fill::one(s, 0, base, table, names, &mut row);
-    let kept = ahead.kept;
+    let ahead = crate::fill::one(s, 0, start.at, table, start.names, &mut row);
     let kind = row[0];
-    if kind != Command::START_TAG {
+    if kind != Command::StartTag.number() {
         return Took { kind, rows: 0 };
     }
-    let look = is_element(document, &row, element);
-    let all = takes_all(query);
-    let first = take_first(look & all, write, rows, to, &row);
+    let look = is_element(start.document, &row, wanted.element);
+    let all = wanted.query.takes_all();
+    let first = take_first(look & all, rows, to, &row);
+    let others = Start {
+        document: start.document,
+        at: start.at,
+        names: ahead.kept.names,
+    };
     let more = take_rest(
+        wanted,
+        others,
         s,
         ahead.next,
-        base,
         table,
-        kept.names,
-        document,
-        name,
         look,
-        all,
-        takes_one(query),
         still,
-        write,
         rows,
         to + 8 * first,
     );
@@ -275,251 +232,185 @@ pub struct Extent {
 }
 
 // How many rows are taken, by a table that has room for the event's new names.
-fn count_by(
-    query: Query,
-    element: &[u8],
-    name: &[u8],
-    document: &[u8],
-    at: usize,
-    names: usize,
-    table: &mut [u32],
-    still: bool,
-) -> usize
-    requires at_in_bounds { at ≤ length document.now }
-    requires ready_at { ReadyAt at (drop at document.now) names (event always names (drop at document.now)) table.old }
-    requires document_len { still ≡ true → length (adds names (event always names (drop at document.now))) ≡ 0 }
-    ensures rows { result ≡ length (chosen query document.now element.now name.now (rows_of at (grown at names table.old (event always names (drop at document.now))) (event always names (drop at document.now)))) }
-    ensures names { table.new ≡ grown at names table.old (event always names (drop at document.now)) }
+fn count_by(wanted: Wanted, start: Start, table: &mut [u32], still: bool) -> usize
+    requires at_in_bounds { start.at ≤ length start.document.now }
+    requires ready_at { ReadyAt start.at (drop start.at start.document.now) start.names (event always start.names (drop start.at start.document.now)) table.old }
+    requires document_len { still ≡ true → length (adds start.names (event always start.names (drop start.at start.document.now))) ≡ 0 }
+    ensures rows { result ≡ length (chosen wanted.entry.query start.entry.document.now wanted.entry.element.now wanted.entry.name.now (rows_of start.entry.at (grown start.entry.at start.entry.names table.old (event always start.entry.names (drop start.entry.at start.entry.document.now))) (event always start.entry.names (drop start.entry.at start.entry.document.now)))) }
+    ensures names { table.new ≡ grown start.entry.at start.entry.names table.old (event always start.entry.names (drop start.entry.at start.entry.document.now)) }
 {
-    let mut none = [0u32; 1];
-    let took = take_event(
-        query,
-        element,
-        name,
-        document,
-        &document[at..],
-        at,
+    take_event(
+        wanted,
+        start,
+        &start.document[start.at..],
         table,
-        names,
         still,
-        false,
-        &mut none,
+        &mut [],
         0,
-    );
-    took.rows
+    )
+    .rows
 }
 
 // The same, by a copy of the pool's pairs.
 fn count_aside(
     own: &mut [u32],
-    query: Query,
-    element: &[u8],
-    name: &[u8],
-    document: &[u8],
-    at: usize,
-    names: usize,
+    wanted: Wanted,
+    start: Start,
     table: &[u32],
     extent: Extent,
 ) -> usize
     requires in_bounds { 131_072 ≤ length own.old }
-    requires whole_at { WholeAt document.now at names table.now extent }
-    ensures { result ≡ length (asked_at query element.now name.now document.now at names table.now) }
+    requires whole_at { WholeAt start.document.now start.at start.names table.now extent }
+    ensures { result ≡ length (asked_at wanted.entry.query wanted.entry.element.now wanted.entry.name.now start.entry.document.now start.entry.at start.entry.names table.now) }
 {
-    put_words(own, 0, table, 2 * names);
-    count_by(query, element, name, document, at, names, own, false)
+    own[..2 * start.names].copy_from_slice(&table[..2 * start.names]);
+    count_by(wanted, start, own, false)
 }
 
 // How many rows are taken. The table may have no room for the event's new names, and is left as it is.
-fn count_taken(
-    query: Query,
-    element: &[u8],
-    name: &[u8],
-    document: &[u8],
-    at: usize,
-    names: usize,
-    table: &mut [u32],
-    extent: Extent,
-) -> usize
-    requires { WholeAt document.now at names table.old extent }
-    ensures rows { result ≡ length (asked_at query element.now name.now document.now at names table.old) }
+fn count_taken(wanted: Wanted, start: Start, table: &mut [u32], extent: Extent) -> usize
+    requires { WholeAt start.document.now start.at start.names table.old extent }
+    ensures rows { result ≡ length (asked_at wanted.entry.query wanted.entry.element.now wanted.entry.name.now start.entry.document.now start.entry.at start.entry.names table.old) }
     ensures names { table.new ≡ table.old }
 {
     if extent.added == 0 {
-        return count_by(query, element, name, document, at, names, table, true);
+        return count_by(wanted, start, table, true);
     }
     let mut own = [0u32; 131_072];
-    count_aside(
-        &mut own, query, element, name, document, at, names, table, extent,
-    )
-}
-
-// No more rows than these are taken of an event of so many.
-fn most_taken(query: Query, count: usize) -> usize
-    ensures { result ≡ most_of query count }
-{
-    if takes_one(query) {
-        return 1;
-    }
-    count
+    count_aside(&mut own, wanted, start, table, extent)
 }
 
 // Whether fewer rows are left than these.
 fn is_short(room: usize, written: usize, n: usize) -> bool
     ensures { result ≡ ltb room (written + n) }
 {
-    if room < written {
-        return true;
-    }
-    room - written < n
+    room < written || room - written < n
 }
 
 // The rows that are taken have room: 11, else the event is handed out.
 fn pick_fitting(
-    query: Query,
-    element: &[u8],
-    name: &[u8],
-    document: &[u8],
-    at: usize,
-    names: usize,
+    wanted: Wanted,
+    start: Start,
     table: &mut [u32],
     rows: &mut [u32],
     written: usize,
     extent: Extent,
-) -> Picked
-    requires whole_at { WholeAt document.now at names table.old extent }
-    requires table_in_bounds { written + length (asked_at query element.now name.now document.now at names table.old) ≤ length rows.old / 8 }
-    ensures { (events : ℕ) → turn_of (progress at names table.old rows.old events written) table.new rows.new result ≡ passes query element.now name.now document.now (progress at names table.old rows.old events written) extent.len }
+) -> Result<Option<Picked>, Refusal>
+    requires whole_at { WholeAt start.document.now start.at start.names table.old extent }
+    requires table_in_bounds { written + length (asked_at wanted.query wanted.element.now wanted.name.now start.document.now start.at start.names table.old) ≤ length rows.old / 8 }
+    ensures { (events : ℕ) → turn_of (progress start.entry.at start.entry.names table.old rows.old events written) table.new rows.new result ≡ passes wanted.entry.query wanted.entry.element.now wanted.entry.name.now start.entry.document.now (progress start.entry.at start.entry.names table.old rows.old events written) extent.len }
 {
-    if table.len() / 2 - names < extent.added {
-        return Picked::Refused(Refusal::new(Refusal::POOL_FULL));
+    if table.len() / 2 - start.names < extent.added {
+        return Err(Refusal::PoolFull);
     }
     let took = take_event(
-        query,
-        element,
-        name,
-        document,
-        &document[at..],
-        at,
+        wanted,
+        start,
+        &start.document[start.at..],
         table,
-        names,
         extent.added == 0,
-        true,
         rows,
         8 * written,
     );
-    Picked::Event {
+    Ok(Some(Picked {
         kind: took.kind,
         len: extent.len,
         added: extent.added,
         rows: took.rows,
-    }
+    }))
 }
 
 // 10, where more rows were written than there are; else the event is handed out where the rows left are enough, whatever is taken.
 fn pick_surely(
-    query: Query,
-    element: &[u8],
-    name: &[u8],
-    document: &[u8],
-    at: usize,
-    names: usize,
+    wanted: Wanted,
+    start: Start,
     table: &mut [u32],
     rows: &mut [u32],
     written: usize,
     extent: Extent,
-) -> Uncounted
-    requires { WholeAt document.now at names table.old extent }
-    ensures { (events : ℕ) → uncounted_of (progress at names table.old rows.old events written) table.new rows.new result ≡ surely query element.now name.now document.now (progress at names table.old rows.old events written) extent }
+) -> Option<Result<Option<Picked>, Refusal>>
+    requires { WholeAt start.document.now start.at start.names table.old extent }
+    ensures { (events : ℕ) → uncounted_of (progress start.entry.at start.entry.names table.old rows.old events written) table.new rows.new result ≡ surely wanted.entry.query wanted.entry.element.now wanted.entry.name.now start.entry.document.now (progress start.entry.at start.entry.names table.old rows.old events written) extent }
 {
     let room = rows.len() / 8;
     if room < written {
-        return Uncounted::Picked(Picked::Refused(Refusal::new(Refusal::ROWS_FULL)));
+        return Some(Err(Refusal::RowsFull));
     }
-    if is_short(room, written, most_taken(query, extent.rows)) {
-        return Uncounted::Unsure;
+    if is_short(room, written, wanted.query.most_taken(extent.rows)) {
+        return None;
     }
-    Uncounted::Picked(pick_fitting(
-        query, element, name, document, at, names, table, rows, written, extent,
-    ))
+    Some(pick_fitting(wanted, start, table, rows, written, extent))
 }
 
 // The rows that those left are held against: as many as could be taken, or where these have no room, as many as are taken.
 fn count_at_need(
-    query: Query,
-    element: &[u8],
-    name: &[u8],
-    document: &[u8],
-    at: usize,
-    names: usize,
+    wanted: Wanted,
+    start: Start,
     table: &mut [u32],
     room: usize,
     written: usize,
     extent: Extent,
 ) -> usize
-    requires { WholeAt document.now at names table.old extent }
-    ensures rows { ltb room (written + result) ≡ ltb room (written + length (asked_at query element.now name.now document.now at names table.old)) }
+    requires { WholeAt start.document.now start.at start.names table.old extent }
+    ensures rows { ltb room (written + result) ≡ ltb room (written + length (asked_at wanted.entry.query wanted.entry.element.now wanted.entry.name.now start.entry.document.now start.entry.at start.entry.names table.old)) }
     ensures names { table.new ≡ table.old }
 {
-    let most = most_taken(query, extent.rows);
+    let most = wanted.query.most_taken(extent.rows);
     if is_short(room, written, most) {
-        return count_taken(query, element, name, document, at, names, table, extent);
+        return count_taken(wanted, start, table, extent);
     }
     most
 }
 
 // What is taken is counted where it matters: 10, then 11, else the event is handed out.
 fn pick_counted(
-    query: Query,
-    element: &[u8],
-    name: &[u8],
-    document: &[u8],
-    at: usize,
-    names: usize,
+    wanted: Wanted,
+    start: Start,
     table: &mut [u32],
     rows: &mut [u32],
     written: usize,
     extent: Extent,
-) -> Picked
-    requires { WholeAt document.now at names table.old extent }
-    ensures { (events : ℕ) → turn_of (progress at names table.old rows.old events written) table.new rows.new result ≡ passes query element.now name.now document.now (progress at names table.old rows.old events written) extent.len }
+) -> Result<Option<Picked>, Refusal>
+    requires { WholeAt start.document.now start.at start.names table.old extent }
+    ensures { (events : ℕ) → turn_of (progress start.entry.at start.entry.names table.old rows.old events written) table.new rows.new result ≡ passes wanted.entry.query wanted.entry.element.now wanted.entry.name.now start.entry.document.now (progress start.entry.at start.entry.names table.old rows.old events written) extent.len }
 {
     let room = rows.len() / 8;
-    let n = count_at_need(
-        query, element, name, document, at, names, table, room, written, extent,
-    );
+    let n = count_at_need(wanted, start, table, room, written, extent);
     if is_short(room, written, n) {
-        return Picked::Refused(Refusal::new(Refusal::ROWS_FULL));
+        return Err(Refusal::RowsFull);
     }
-    pick_fitting(
-        query, element, name, document, at, names, table, rows, written, extent,
-    )
+    pick_fitting(wanted, start, table, rows, written, extent)
 }
 
 // ---- the event at a place
 
-fn see(document: &[u8], at: usize, names: usize, table: &[u32]) -> Seen
-    ensures { Sees document.now (place_of at names) table.now result }
+fn see(start: Start, table: &[u32]) -> Result<Option<Extent>, Refusal>
+    ensures { Sees start.entry.document.now (place_of start.entry.at start.entry.names) table.now result }
 {
-    if slice_bounds::sizes_bad(document, table) {
-        return Seen::Refused(Refusal::new(Refusal::BAD_SIZE));
+    if slice_bounds::sizes_bad(start.document, table) {
+        return Err(Refusal::BadSize);
     }
-    if slice_bounds::place_bad(at, names, document, table) {
-        return Seen::Refused(Refusal::new(Refusal::BAD_STATE));
+    if slice_bounds::place_bad(start.at, start.names, start.document, table) {
+        return Err(Refusal::BadState);
     }
-    if at == document.len() {
-        return Seen::End;
+    if start.at == start.document.len() {
+        return Ok(None);
     }
-    let m = extent::measure(&document[at..], true, names, document.len(), table);
-    let outcome = m.outcome;
-    match outcome {
-        Outcome::Incomplete => Seen::End,
-        Outcome::Bad(r) => Seen::Refused(r),
-        Outcome::Complete(len) => Seen::Whole {
-            rows: m.rows,
-            added: m.added,
-            len,
-        },
-    }
+    let m = extent::measure(
+        &start.document[start.at..],
+        true,
+        start.names,
+        start.document.len(),
+        table,
+    );
+    let Some(len) = m.outcome? else {
+        return Ok(None);
+    };
+    Ok(Some(Extent {
+        rows: m.rows,
+        added: m.added,
+        len,
+    }))
 }
 
 // As pick, but nothing is counted: counting takes a large frame, which costs a short query most of its time.
@@ -533,32 +424,23 @@ pub fn pick_uncounted(
     table: &mut [u32],
     rows: &mut [u32],
     written: usize,
-) -> Uncounted
+) -> Option<Result<Option<Picked>, Refusal>>
     ensures { (events : ℕ) → uncounted_of (progress at names table.old rows.old events written) table.new rows.new result ≡ uncounted query element.now name.now document.now (progress at names table.old rows.old events written) }
 {
-    match see(document, at, names, table) {
-        Seen::Whole {
-            rows: count,
-            added,
-            len,
-        } => pick_surely(
-            query,
-            element,
-            name,
-            document,
-            at,
-            names,
-            table,
-            rows,
-            written,
-            Extent {
-                rows: count,
-                added,
-                len,
-            },
-        ),
-        Seen::End => Uncounted::Picked(Picked::End),
-        Seen::Refused(r) => Uncounted::Picked(Picked::Refused(r)),
+    let wanted = Wanted {
+        query,
+        element,
+        name,
+    };
+    let start = Start {
+        document,
+        at,
+        names,
+    };
+    match see(start, table) {
+        Ok(Some(extent)) => pick_surely(wanted, start, table, rows, written, extent),
+        Ok(None) => Some(Ok(None)),
+        Err(refusal) => Some(Err(refusal)),
     }
 }
 
@@ -573,31 +455,21 @@ pub fn pick(
     table: &mut [u32],
     rows: &mut [u32],
     written: usize,
-) -> Picked
+) -> Result<Option<Picked>, Refusal>
     ensures { (events : ℕ) → turn_of (progress at names table.old rows.old events written) table.new rows.new result ≡ turn_or_refuse (query_of query element.now name.now) document.now (progress at names table.old rows.old events written) }
 {
-    match see(document, at, names, table) {
-        Seen::Whole {
-            rows: count,
-            added,
-            len,
-        } => pick_counted(
-            query,
-            element,
-            name,
-            document,
-            at,
-            names,
-            table,
-            rows,
-            written,
-            Extent {
-                rows: count,
-                added,
-                len,
-            },
-        ),
-        Seen::End => Picked::End,
-        Seen::Refused(r) => Picked::Refused(r),
-    }
+    let wanted = Wanted {
+        query,
+        element,
+        name,
+    };
+    let start = Start {
+        document,
+        at,
+        names,
+    };
+    let Some(extent) = see(start, table)? else {
+        return Ok(None);
+    };
+    pick_counted(wanted, start, table, rows, written, extent)
 }

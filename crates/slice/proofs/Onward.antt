@@ -1,42 +1,17 @@
 -- A next at a place in the document: what it leaves, from what the scanner's step left.
-use mathlib.Core.Bool.{true, false}
-use mathlib.Core.List.{List, []}
-use mathlib.Core.Path.{◌≡◌, refl, sym, ap, ◌∙◌}
-use Prim.Native.Nat.{ℕ, ◌+◌, ◌*◌, ◌-◌, ◌/◌, ◌≤◌, ◌<◌}
-use native.Mathlib.Omega.{arith}
-use borrow.Author.Tests.{le-ltb, ltb-false, eq-eqb, ne_eqb}
-use lib.Dec.{ltb}
-use lib.ListN.{length, take, drop, length-drop}
-use lib.Seq.{take_all}
+use Rattle.std.proofs.Common.{true, false, List, [], ◌≡◌, refl, sym, ap, ◌∙◌, ℕ, ◌+◌, ◌*◌, ◌-◌, ◌/◌, ◌≤◌, arith, le-ltb, ltb-false, eq-eqb, ne_eqb, ltb, length, take, drop, length-drop, take_all}
 use Rattle.grammar.specs.Grammar.{Items}
 use Rattle.grammar.proofs.Laws.{agree-event}
 use Rattle.grammar.proofs.Outcomes.{ends-within}
 use Rattle.grammar.specs.Scan.{sound, adds, count, Outcome, complete, incomplete, bad, outcome}
 use Rattle.grammar.proofs.Choice.{by_test}
 use Rattle.quick_step.specs.Step as Scanned
-use Rattle.quick_step.specs.Step.{step, too_long, outside, SteppedQuickly}
+use Rattle.quick_step.specs.Step.{step, too_long, outside, StepsQuickly}
 use Rattle.quick.specs.declared.Taken.{Taken}
-use Rattle.slice_spec.specs.Slice.{Place, Left, Answer, gives, end, unchanged, sizes_bad, place_bad, items_at, given, hand_out, by_outcome, next_from, next, place_after, table_after}
+use Rattle.slice_spec.specs.Slice.{Place, Left, Answer, gives, end, unchanged, items_at, given, hand_out, by_outcome, next_from, place_after, table_after}
 use Rattle.slice_spec.specs.Bounds.{Fits}
 
 module _ (p : Place) (document table rows : List ℕ) where
-  -- ---- what every call checks first
-
-  pub next-sizes : (number detail : ℕ) → sizes_bad document table ≡ true → number ≡ 17 → detail ≡ 0 → unchanged p table rows (Answer.refused number detail) ≡ next p document table rows
-  unfolding next
-  next-sizes number detail a e d = rw (a, e, d)
-
-  pub next_place : (number detail : ℕ) → sizes_bad document table ≡ false → place_bad p document table ≡ true → number ≡ 19 → detail ≡ 0
-      → unchanged p table rows (Answer.refused number detail) ≡ next p document table rows
-  unfolding next
-  next_place number detail a b e d = rw (a, b, e, d)
-
-  pub next-goes : (x : Left) → sizes_bad document table ≡ false → place_bad p document table ≡ false → x ≡ next_from p document table rows → x ≡ next p document table rows
-  unfolding next
-  next-goes x a b e = e ∙ rw (a, b)
-
-  -- ---- the event
-
   pub at-end : p.at ≡ length document → unchanged p table rows end ≡ next_from p document table rows
   unfolding next_from
   at-end e = rw (eq-eqb _ _ e)
@@ -114,7 +89,7 @@ module _ (p : Place) (document table rows : List ℕ) where
 -- ---- the quick way
 
 module _ (p : Place) (document table rows rows₁ : List ℕ) (t : Taken) (f : Fits p document table)
-    (q : SteppedQuickly (take (length document - p.at) (drop p.at document)) p.at false p.names 0 table document rows rows₁ t) (h : 0 < t.len) where
+    (q : StepsQuickly (take (length document - p.at) (drop p.at document)) p.at false p.names 0 table document rows rows₁ t) where
   abbrev took : Scanned.Left
   took = record { reply = Scanned.gives t.rows t.len 0 0; table = table; store = document; rows = rows₁ }
 
@@ -122,9 +97,9 @@ module _ (p : Place) (document table rows rows₁ : List ℕ) (t : Taken) (f : F
   past names = record { answer = gives t.rows; place = record { at = p.at + t.len; names = names }; table = table; rows = rows₁ }
 
   pub quick-sums : p.at + t.len ≤ length document
-  quick-sums = (sums p document table rows document f t.rows t.len 0 0 table document rows₁ (sym (q.steps h true))).0
+  quick-sums = (sums p document table rows document f t.rows t.len 0 0 table document rows₁ (sym (q.steps true))).0
 
   pub quick-goes : past p.names ≡ next_from p document table rows
   quick-goes =
       let z : p.names ≡ p.names + 0 = omega arith in
-      ap past z ∙ goes p document table rows document f took (sym (q.steps h true)) (λ e. omega (arith, quick-sums, h, e))
+      ap past z ∙ goes p document table rows document f took (sym (q.steps true)) (λ e. omega (arith, quick-sums, q.long, e))

@@ -1,21 +1,25 @@
 -- A query on its way: where it stands after an event, and what is still to come.
-use Rattle.std.specs.Prelude.{Bool, true, false, List, ◌≡◌, ℕ, ◌+◌, ◌≤◌, ◌<◌, length}
+use Rattle.std.specs.Prelude.{Bool, true, false, Option, Some, Result, Ok, List, ◌≡◌, ℕ, ◌+◌, ◌≤◌, ◌<◌, length}
+use Rattle.wire.specs.declared.Refusal.{Refusal}
 use Rattle.scanner.specs.declared.select.Picked.{Picked}
 use Rattle.slice_spec.specs.Queries.{Query, Ending, done, Step, on, stop, Progress, Left, query_f}
 use Rattle.slice_spec.specs.Turns.{Turn, passed, halted, turn_or_refuse, after_by, by_turn}
-use Rattle.slice.specs.Answers.{step_of, reached_of, left_of}
+use Rattle.slice.specs.Answers.{step_of, reached_of}
 use Rattle.slice.specs.declared.queries.Reached.{Reached}
-use Rattle.slice.specs.declared.queries.Queried.{Queried}
 use Rattle.slice.specs.declared.queries.Passed as Coded
-use Rattle.slice.specs.declared.queries.Asked.{Asked}
 
 -- ---- one event
 
--- what a picked event adds has room in words
-pub record Addable (r : Reached) (p : Picked) : Type 0 where
-  pub fits : (kind len added n : ℕ) → p ≡ Picked.Event kind len added n
-      → (r.place.at + len < 18_446_744_073_709_551_616) × (r.place.names + added < 18_446_744_073_709_551_616)
-      × (r.events + 1 < 18_446_744_073_709_551_616) × (r.rows + n < 18_446_744_073_709_551_616)
+-- what an event adds has room in words
+pub record Fits (r : Reached) (e : Picked) : Type 0 where
+  pub at : r.place.at + e.len < 18_446_744_073_709_551_616
+  pub names : r.place.names + e.added < 18_446_744_073_709_551_616
+  pub events : r.events + 1 < 18_446_744_073_709_551_616
+  pub rows : r.rows + e.rows < 18_446_744_073_709_551_616
+
+-- so does that which was picked
+pub record Addable (r : Reached) (p : Result (Option Picked) Refusal) : Type 0 where
+  pub fits : (e : Picked) → p ≡ Ok (Some e) → Fits r e
 
 -- whether a query goes on, and where it stands
 pub record Stepped : Type 0 where
@@ -23,7 +27,7 @@ pub record Stepped : Type 0 where
   pub progress : Progress
 
 abbrev pub passed_of : List ℕ → List ℕ → Coded.Passed → Stepped
-passed_of table rows p = record { step = step_of p.onward; progress = reached_of table rows p.reached }
+passed_of table rows p = record { step = step_of p.end; progress = reached_of table rows p.reached }
 
 unfoldable pub step_by : Query → Turn → Stepped
 step_by q (passed kind n g) = record { step = after_by q kind n; progress = g }
@@ -45,8 +49,3 @@ pub record Going (q : Query) (document : List ℕ) (answer : Left) (g : Progress
   pub ahead : by_turn q (λ g'. query_f fuel q document g') (turn_or_refuse q document g) ≡ answer
   pub enough : length document ≤ g.place.at + fuel + 1
   pub counted : g.events ≤ g.place.at
-
--- the query's answer; or it is still to come from where the query stands
-pub record Asks (q : Query) (document : List ℕ) (answer : Left) (table rows : List ℕ) (r : Asked) : Type 0 where
-  pub ended : (x : Queried) → r ≡ Asked.Ended x → left_of table rows x ≡ answer
-  pub unsure : (x : Reached) → r ≡ Asked.Unsure x → Going q document answer (reached_of table rows x)

@@ -9,52 +9,47 @@ ghost use Rattle.slice_spec.specs.Slice.{create, next_from, next};
 ghost use Rattle.slice_spec.specs.Bounds.{Fits};
 ghost use Rattle.slice.specs.Answers.{place_of, created_of, next_of};
 
-use header::Header;
-use scanner::Stepped;
 use wire::Refusal;
 
 // Where the next event starts in the document, and how many pairs of the pool table are names.
-#[derive(Clone, Copy)]
+#[derive(Clone, Copy, Debug, PartialEq, Eq)]
 pub struct Place {
     pub at: usize,
     pub names: usize,
 }
 
-#[derive(Clone, Copy)]
-pub enum Created {
-    Place(Place),
-    Refused(Refusal),
-}
-
-#[derive(Clone, Copy)]
-pub enum Next {
-    Event { rows: usize, place: Place },
-    End,
-    Refused(Refusal),
+// An event of so many rows, and the place after it.
+#[derive(Clone, Copy, Debug, PartialEq, Eq)]
+pub struct Event {
+    pub rows: usize,
+    pub place: Place,
 }
 
 // A reader of the document, past its header.
-pub fn create(document: &[u8], pool: &[u32]) -> Created
+#[tactic(auto, unfolding(slice_spec::specs::Slice::create))]
+pub fn create(document: &[u8], pool: &[u32]) -> Result<Place, Refusal>
     ensures { created_of result ≡ create document.now pool.now }
 {
     if slice_bounds::sizes_bad(document, pool) {
-        return Created::Refused(Refusal::new(Refusal::BAD_SIZE));
+        return Err(Refusal::BadSize);
     }
-    match header::check_magic(document) {
-        Header::Passed => Created::Place(Place { at: 4, names: 0 }),
-        Header::Refused(r) => Created::Refused(r),
-    }
+    header::check_magic(document)?;
+    Ok(Place { at: 4, names: 0 })
 }
 
 // The event at a place that lies in the document, by the two passes. Its new names stay where they are, so there is no name store.
-fn next_read(place: Place, document: &[u8], pool: &mut [u32], rows: &mut [u32]) -> Next
+fn next_read(
+    place: Place,
+    document: &[u8],
+    pool: &mut [u32],
+    rows: &mut [u32],
+) -> Result<Option<Event>, Refusal>
     requires { Fits (place_of place) document.now pool.old }
     ensures { next_of place pool.new rows.new result ≡ next_from (place_of place) document.now pool.old rows.old }
 {
-    let at = place.at;
-    let names = place.names;
+    let Place { at, names } = place;
     if at == document.len() {
-        return Next::End;
+        return Ok(None);
     }
     let mut store = [0u8; 1];
     match scanner::step_read(
@@ -67,63 +62,56 @@ fn next_read(place: Place, document: &[u8], pool: &mut [u32], rows: &mut [u32]) 
         pool,
         &mut store,
         rows,
-    ) {
-        Stepped::Event {
-            rows: count,
-            len,
-            added,
-            bytes: _,
-            spare: _,
-        } => Next::Event {
-            rows: count,
+    )? {
+        Some(read) => Ok(Some(Event {
+            rows: read.rows,
             place: Place {
-                at: at + len,
-                names: names + added,
+                at: at + read.len,
+                names: names + read.added,
             },
-        },
-        Stepped::Incomplete => Next::End,
-        Stepped::Refused(r) => Next::Refused(r),
+        })),
+        None => Ok(None),
     }
 }
 
 // The same, the quick way first: most events take it.
-fn next_from(place: Place, document: &[u8], pool: &mut [u32], rows: &mut [u32]) -> Next
+fn next_from(
+    place: Place,
+    document: &[u8],
+    pool: &mut [u32],
+    rows: &mut [u32],
+) -> Result<Option<Event>, Refusal>
     requires { Fits (place_of place) document.now pool.old }
     ensures { next_of place pool.new rows.new result ≡ next_from (place_of place) document.now pool.old rows.old }
 {
-    let at = place.at;
-    let names = place.names;
-    let taken = quick_step::step_quickly(
-        &document[at..],
-        at,
-        false,
-        names,
-        0,
-        pool,
-        document,
-        rows,
-    );
-    if taken.len != 0 {
-        return Next::Event {
+    let Place { at, names } = place;
+    match quick_step::step_quickly(&document[at..], at, false, names, 0, pool, document, rows) {
+        Some(taken) => Ok(Some(Event {
             rows: taken.rows,
             place: Place {
                 at: at + taken.len,
                 names,
             },
-        };
+        })),
+        None => next_read(place, document, pool, rows),
     }
-    next_read(place, document, pool, rows)
 }
 
 // The next event, its rows written from the first word on and its new names to the pool; or the end.
-pub fn next_event(place: Place, document: &[u8], pool: &mut [u32], rows: &mut [u32]) -> Next
+#[tactic(auto, using(slice_spec::proofs::Bounds::fits), unfolding(slice_spec::specs::Slice::next))]
+pub fn next_event(
+    place: Place,
+    document: &[u8],
+    pool: &mut [u32],
+    rows: &mut [u32],
+) -> Result<Option<Event>, Refusal>
     ensures { next_of place pool.new rows.new result ≡ next (place_of place) document.now pool.old rows.old }
 {
     if slice_bounds::sizes_bad(document, pool) {
-        return Next::Refused(Refusal::new(Refusal::BAD_SIZE));
+        return Err(Refusal::BadSize);
     }
     if slice_bounds::place_bad(place.at, place.names, document, pool) {
-        return Next::Refused(Refusal::new(Refusal::BAD_STATE));
+        return Err(Refusal::BadState);
     }
     next_from(place, document, pool, rows)
 }

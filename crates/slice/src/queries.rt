@@ -3,40 +3,37 @@ use crate::Place;
 use wire::Refusal;
 
 // How far a query came: the place, the events that it consumed, and the rows that it wrote.
-#[derive(Clone, Copy)]
+#[derive(Clone, Copy, Debug, PartialEq, Eq)]
 pub struct Reached {
     pub place: Place,
     pub events: usize,
     pub rows: usize,
 }
 
-// A refused query keeps what it found before.
-#[derive(Clone, Copy)]
+// What was asked for was found, or no more is to be read.
+#[derive(Clone, Copy, Debug, PartialEq, Eq)]
 pub enum Queried {
     Found(Reached),
     Done(Reached),
-    Refused { refusal: Refusal, reached: Reached },
 }
 
-// Whether a query goes on after an event, or how it ends.
-#[derive(Clone, Copy)]
-pub enum Onward {
-    Next,
-    Found,
-    Done,
-    Refused(Refusal),
-}
-
-// How far it came with an event.
-#[derive(Clone, Copy)]
-pub struct Passed {
-    pub onward: Onward,
+// A refused query keeps what it found before.
+#[derive(Clone, Copy, Debug, PartialEq, Eq)]
+pub struct Stopped {
+    pub refusal: Refusal,
     pub reached: Reached,
 }
 
-// It ended, or came to an event of which only counting tells whether the rows left are enough.
-#[derive(Clone, Copy)]
-pub enum Asked {
-    Ended(Queried),
-    Unsure(Reached),
+// How a query ends that is not refused.
+#[derive(Clone, Copy, Debug, PartialEq, Eq)]
+pub enum End {
+    Found,
+    Done,
+}
+
+// How far it came with an event; whether that is the end, or it was refused.
+#[derive(Clone, Copy, Debug, PartialEq, Eq)]
+pub struct Passed {
+    pub end: Result<Option<End>, Refusal>,
+    pub reached: Reached,
 }

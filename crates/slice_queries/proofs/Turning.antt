@@ -1,13 +1,7 @@
 -- A query, turn by turn: what is still to come from where it stands is the whole answer.
-use mathlib.Core.Bool.{true, false}
-use mathlib.Core.List.{List, []}
-use mathlib.Core.Path.{◌≡◌, refl, sym, ap, ◌∙◌}
-use Prim.Native.Nat.{ℕ, zero, suc, ◌+◌, ◌*◌, ◌-◌, ◌/◌, ◌≤◌, ◌<◌}
-use native.Mathlib.Omega.{arith}
-use borrow.Author.Tests.{le-ltb, ltb-false, eq-eqb}
-use lib.Dec.{ltb, eqb}
-use lib.ListN.{length, drop, length-drop}
-use lib.Seq.{length-sets}
+use Rattle.std.proofs.Common.{true, false, Option, Result, List, [], ◌≡◌, refl, sym, ap, ◌∙◌, ℕ, zero, suc, ◌+◌, ◌*◌, ◌-◌, ◌/◌, ◌≤◌, ◌<◌, arith, true≢false, le-ltb, ltb-false, eq-eqb, ltb, eqb, length, drop, length-drop}
+use Rattle.std.proofs.Math.Seq.{length-sets}
+use Rattle.wire.specs.declared.Refusal.{Refusal}
 use Rattle.grammar.specs.Grammar.{Span, Items}
 use Rattle.grammar.proofs.Laws.{agree-event}
 use Rattle.grammar.proofs.Outcomes.{ends-within}
@@ -21,11 +15,15 @@ use Rattle.slice_spec.proofs.Turns.{query-turn}
 use Rattle.scanner.specs.Select.{turn_of}
 use Rattle.scanner.specs.declared.select.Picked.{Picked}
 use Rattle.slice.specs.Answers.{step_of, reached_of, left_of}
-use Rattle.slice.specs.Going.{Addable, Stepped, passed_of, step_by, stops, end_of, Going, Asks}
+use Rattle.slice.specs.Going.{Addable, Stepped, passed_of, step_by, stops, end_of, Going}
 use Rattle.slice.specs.declared.queries.Reached.{Reached}
 use Rattle.slice.specs.declared.queries.Queried.{Queried}
+use Rattle.slice.specs.declared.queries.Stopped.{Stopped}
 use Rattle.slice.specs.declared.queries.Passed.{Passed}
-use Rattle.slice.specs.declared.queries.Asked.TheVariants as Asked
+
+-- what ended a query let no event pass
+not-passed : {A : Type 0} {e : Ending} {g g' : Progress} {kind n : ℕ} → halted e g ≡ passed kind n g' → A
+not-passed h = absurd (let z : ◌≡◌ {A = ℕ} 0 1 = cc h in omega arith)
 
 -- an event was consumed: what held before, and where that leads
 pub record Moved (document : List ℕ) (g g' : Progress) : Type 0 where
@@ -59,10 +57,10 @@ module _ (q : Query) (document : List ℕ) where
   unfolding passing
   passing-moved g g' m kind n k ts ws good some in-document h =
       by_test (ltb (length g.rows / 8) (g.written + length ws))
-      (λ a. let y = rw a at h in let z : ◌≡◌ {A = ℕ} 0 1 = cc y in absurd (omega arith))
+      (λ a. let y = rw a at h in not-passed y)
       (λ a. let y = rw a at h in
       by_test (ltb (length g.table) (2 * (g.place.names + length ts)))
-      (λ b. let y = rw b at y in let z : ◌≡◌ {A = ℕ} 0 1 = cc y in absurd (omega arith))
+      (λ b. let y = rw b at y in not-passed y)
       (λ b. let y = rw b at y in
       let same : past g m ts ws ≡ g' = cc y in
       rw same at (past-moved g m ts ws good some in-document (ltb-false _ _ b) (ltb-false _ _ a))))
@@ -76,23 +74,23 @@ module _ (q : Query) (document : List ℕ) where
       let a = agree-event s [] (sound g.place.names g.table (length document)) g.place.names in
       let k = ends-within s m true g.place.names is _ a o in
       passing-moved g g' m kind n _ _ _ good k.0 (omega (arith, k.1, length-drop g.place.at document)) h
-  by-moved g g' kind n incomplete o good placed h = let z : ◌≡◌ {A = ℕ} 0 1 = cc h in absurd (omega arith)
-  by-moved g g' kind n (bad m d) o good placed h = let z : ◌≡◌ {A = ℕ} 0 1 = cc h in absurd (omega arith)
+  by-moved g g' kind n incomplete o good placed h = not-passed h
+  by-moved g g' kind n (bad m d) o good placed h = not-passed h
 
   pub moved : (g g' : Progress) (kind n : ℕ) → turn_or_refuse q document g ≡ passed kind n g' → Moved document g g'
   unfolding turn_or_refuse turn place_bad
   moved g g' kind n h =
       by_test (sizes_bad document g.table)
-      (λ a. let y = rw a at h in let z : ◌≡◌ {A = ℕ} 0 1 = cc y in absurd (omega arith))
+      (λ a. let y = rw a at h in not-passed y)
       (λ a. let y = rw a at h in
       by_test (ltb (length document) g.place.at)
-      (λ b. let y = rw b at y in let z : ◌≡◌ {A = ℕ} 0 1 = cc y in absurd (omega arith))
+      (λ b. let y = rw b at y in not-passed y)
       (λ b. let y = rw b at y in
       by_test (ltb (length g.table) (2 * g.place.names))
-      (λ d. let y = rw d at y in let z : ◌≡◌ {A = ℕ} 0 1 = cc y in absurd (omega arith))
+      (λ d. let y = rw d at y in not-passed y)
       (λ d. let y = rw d at y in
       by_test (eqb g.place.at (length document))
-      (λ e. let y = rw e at y in let z : ◌≡◌ {A = ℕ} 0 1 = cc y in absurd (omega arith))
+      (λ e. let y = rw e at y in not-passed y)
       (λ e. let y = rw e at y in by-moved g g' kind n (outcome true (items_at g.place document g.table)) refl a (ltb-false _ _ b) y))))
 
 -- ---- what is still to come
@@ -151,7 +149,7 @@ module _ (q : Query) (document : List ℕ) where
 -- ---- after an event, for both loops
 
 absurd-stop : {A : Type 0} → true ≡ false → A
-absurd-stop h = absurd (let z : ◌≡◌ {A = ℕ} 0 1 = cc h in omega arith)
+absurd-stop h = absurd (true≢false h)
 
 module _ (q : Query) (document : List ℕ) (g : Progress) where
   moved_by : (t : Turn) → turn_or_refuse q document g ≡ t → stops (step_by q t).step ≡ false → Moved document g (step_by q t).progress
@@ -188,7 +186,7 @@ pub record Walked (q : Query) (document : List ℕ) (g₀ g : Progress) : Type 0
 pub not_yet : (q : Query) (document : List ℕ) (g : Progress) → g.events ≤ g.place.at → Walked q document g g
 not_yet q document g h = record { still = λ answer w. w; counted = h; same-table = refl; same_rows = refl }
 
-module _ (q : Query) (document : List ℕ) (g₀ : Progress) (table rows table' rows' : List ℕ) (reached : Reached) (picked : Picked)
+module _ (q : Query) (document : List ℕ) (g₀ : Progress) (table rows table' rows' : List ℕ) (reached : Reached) (picked : Result (Option Picked) Refusal)
     (w : Walked q document g₀ (reached_of table rows reached))
     (h : turn_of (reached_of table rows reached) table' rows' picked ≡ turn_or_refuse q document (reached_of table rows reached)) where
   abbrev g : Progress
@@ -200,22 +198,27 @@ module _ (q : Query) (document : List ℕ) (g₀ : Progress) (table rows table' 
   pub addable : length document < 18_446_744_073_709_551_616 → length g₀.table < 18_446_744_073_709_551_616 → length g₀.rows < 18_446_744_073_709_551_616
       → Addable reached picked
   addable a b d = record {
-    fits = λ kind len added n e.
-        let m = moved q document g _ kind n (sym h ∙ ap (turn_of g table' rows') e) in
-        (omega (arith, m.within), omega (arith, m.names-fit, w.same-table), omega (arith, w.counted, m.some_bytes, m.within), omega (arith, m.rows_fit, w.same_rows));
+    fits = λ e is.
+        let m = moved q document g _ e.kind e.rows (sym h ∙ ap (turn_of g table' rows') is) in
+        record {
+          at = omega (arith, m.within);
+          names = omega (arith, m.names-fit, w.same-table);
+          events = omega (arith, w.counted, m.some_bytes, m.within);
+          rows = omega (arith, m.rows_fit, w.same_rows);
+        };
   }
 
   module _ (x : Passed) (e : passed_of table' rows' x ≡ step_by q t) where
     abbrev g' : Progress
     g' = reached_of table' rows' x.reached
 
-    same_stop : stops (step_of x.onward) ≡ stops (step_by q t).step
+    same_stop : stops (step_of x.end) ≡ stops (step_by q t).step
     same_stop = ap (λ (y : Stepped). stops y.step) e
 
     same-progress : g' ≡ (step_by q t).progress
     same-progress = ap (λ (y : Stepped). y.progress) e
 
-    module _ (b : stops (step_of x.onward) ≡ false) where
+    module _ (b : stops (step_of x.end) ≡ false) where
       moved_on : Moved document g g'
       moved_on = rw same-progress (moved_by q document g t (sym h) (sym same_stop ∙ b))
 
@@ -230,22 +233,7 @@ module _ (q : Query) (document : List ℕ) (g₀ : Progress) (table rows table' 
         same_rows = moved_on.same_rows ∙ w.same_rows;
       }
 
-    pub ended-there : (answer : Left) → Going q document answer g₀ → stops (step_of x.onward) ≡ true → (y : Queried) → left_of table' rows' y ≡ ends g' (end_of (step_of x.onward))
+    pub ended-there : (answer : Left) → Going q document answer g₀ → stops (step_of x.end) ≡ true → (y : Result Queried Stopped) → left_of table' rows' y ≡ ends g' (end_of (step_of x.end))
         → left_of table' rows' y ≡ answer
     ended-there answer v b y k =
         k ∙ ap (λ (z : Stepped). ends z.progress (end_of z.step)) e ∙ ends_by q document g answer (w.still answer v) t (sym h) (sym same_stop ∙ b)
-
--- ---- what the code's answers say
-
-module _ (q : Query) (document : List ℕ) (answer : Left) (table rows : List ℕ) where
-  pub asks-ended : (x : Queried) → left_of table rows x ≡ answer → Asks q document answer table rows (Asked.Ended x)
-  asks-ended x h = record {
-    ended = λ y e. let z : x ≡ y = cc e in rw z at h;
-    unsure = λ y e. absurd (let z : ◌≡◌ {A = ℕ} 0 1 = cc e in omega arith);
-  }
-
-  pub asks-unsure : (x : Reached) → Going q document answer (reached_of table rows x) → Asks q document answer table rows (Asked.Unsure x)
-  asks-unsure x h = record {
-    ended = λ y e. absurd (let z : ◌≡◌ {A = ℕ} 0 1 = cc e in omega arith);
-    unsure = λ y e. let z : x ≡ y = cc e in rw z at h;
-  }

@@ -1,3 +1,1 @@
-pub mod Faults
 pub mod Window
-mod Closing

@@ -1,14 +1,7 @@
 -- The window's bytes as a feed moves and appends them.
-use mathlib.Core.List.{List, [], ◌∷◌, ◌++◌, append_assoc}
-use mathlib.Core.Path.{◌≡◌, refl, sym, ap, ◌∙◌}
-use Prim.Native.Nat.{ℕ, zero, suc, ◌+◌, ◌-◌, ◌≤◌, ◌<◌, min}
-use native.Mathlib.Nat.{le_of_suc-le-suc, not-suc-le-zero}
-use native.Mathlib.Numerals.{add-one}
-use native.Mathlib.Omega.{arith}
-use lib.ListN.{length, take, drop, get_or, set, length-drop, length-append, take-append-drop}
-use lib.Seq.{slice, sets, sets-eq, paste, take_all, take_at, drop_at, drop-drop, take-add, get_or-drop, get_or-append-add, length-slice, length-take-le, drop-append-add}
-use lib.Dec.{ltb}
-use borrow.Author.Tests.{ltb-true, ltb-false}
+use Rattle.std.proofs.Common.{List, ◌++◌, append_assoc, ◌≡◌, sym, ap, ◌∙◌, ℕ, ◌+◌, ◌-◌, ◌≤◌, min, arith, length, take, drop, length-drop, length-append, take-append-drop, ltb, ltb-true, ltb-false, take_all, take_at, drop_at, drop-drop, take-add, length-take-le}
+use Rattle.std.proofs.Math.Seq.{slice, sets, sets-eq, paste, length-slice, drop-append-add}
+use Rattle.std.specs.List.{copy_within}
 use Rattle.byte_copy.specs.Sets.{sets-take}
 use Rattle.grammar.proofs.Choice.{by_test}
 
@@ -19,46 +12,14 @@ part_slice w start end h k =
     sym (drop_at (take start w) (take (end - start) (drop start w)) start (length-take-le start w (omega arith)))
     ∙ ap (drop start) (sym (take-add start (end - start) w) ∙ ap (λ (n : ℕ). take n w) e)
 
--- ---- the waiting bytes move to the front
+-- the waiting bytes move to the front; where they are there, nothing moves
+pub moved : (w : List ℕ) (start end : ℕ) → start ≤ end → end ≤ length w → copy_within w start end 0 ≡ slice start end w ++ drop (end - start) w
+moved w start end h k = let z : 0 + (end - start) ≡ end - start = omega arith in rw (part_slice w start end h k, z)
 
--- w with its first i bytes replaced by those of s
-abbrev pub onto : List ℕ → List ℕ → ℕ → List ℕ
-onto s w i = take i s ++ drop i w
-
-onto-suc : (s w : List ℕ) (i : ℕ) → i < length s → i < length w → set (onto s w i) i (get_or s i 0) ≡ onto s w (suc i)
-onto-suc [] w i h k = absurd (not-suc-le-zero h)
-onto-suc (x ∷ s) [] i h k = absurd (not-suc-le-zero k)
-onto-suc (x ∷ s) (y ∷ w) zero h k = refl
-onto-suc (x ∷ s) (y ∷ w) (suc i) h k = ap (λ (l : List ℕ). x ∷ l) (onto-suc s w i (le_of_suc-le-suc h) (le_of_suc-le-suc k))
-
--- the bytes past those replaced are as they were
-onto-past : (s w : List ℕ) (i k : ℕ) → i ≤ length s → get_or (onto s w i) (k + i) 0 ≡ get_or w (k + i) 0
-onto-past s w i k h =
-    let n : length (take i s) ≡ i = length-take-le i s h in
-    let e : k + i ≡ length (take i s) + k = omega arith in
-    ap (λ (j : ℕ). get_or (onto s w i) j 0) e
-    ∙ get_or-append-add (take i s) (drop i w) k 0
-    ∙ get_or-drop i w k 0
-    ∙ ap (λ (j : ℕ). get_or w j 0) (omega arith)
-
--- one byte more: it is read where nothing was stored yet
-pub moved : (w₀ w : List ℕ) (start i : ℕ) → start + i < length w₀ → w ≡ onto (drop start w₀) w₀ i
-    → set w i (get_or w (start + i) 0) ≡ onto (drop start w₀) w₀ (i + 1)
-moved w₀ w start i h e =
-    let n = length-drop start w₀ in
-    let read : get_or w (start + i) 0 ≡ get_or (drop start w₀) i 0 =
-    ap (λ (l : List ℕ). get_or l (start + i) 0) e ∙ onto-past (drop start w₀) w₀ i start (omega arith) ∙ sym (get_or-drop start w₀ i 0) in
-    rw (read, e, add-one) (onto-suc (drop start w₀) w₀ i (omega arith) (omega arith))
-
--- where they are at the front, nothing moves
 pub unmoved : (w : List ℕ) (start end : ℕ) → start ≡ 0 → w ≡ slice start end w ++ drop (end - start) w
 unmoved w start end e =
     let n : end - 0 ≡ end = omega arith in
     rw (e, n) (sym (take-append-drop end w))
-
--- all of them
-pub moved_all : (w : List ℕ) (start end : ℕ) → start ≤ end → end ≤ length w → onto (drop start w) w (end - start) ≡ slice start end w ++ drop (end - start) w
-moved_all w start end h k = ap (λ (l : List ℕ). l ++ drop (end - start) w) (part_slice w start end h k)
 
 -- ---- and the chunk's come after them
 

@@ -1,13 +1,12 @@
 // The chunk reader's `next`: the event that stands in the window, if all of it waits.
-#![tactic(auto)]
+#![tactic(auto, unfolding(stream::specs::Answers::fault, stream_spec::specs::Stream::sizes_bad, stream_spec::specs::Stream::state_bad, stream_spec::specs::Stream::checked, stream_spec::specs::Stream::next))]
 
 ghost use Rattle.std.specs.Prelude.{◌&&◌, ◌≡◌, ◌≤◌, eqb};
 ghost use Rattle.stream_spec.specs.Stream.{passed, next_from, next_header, next};
 ghost use Rattle.stream.specs.Answers.{stream_of, lend, Fits, Sums, later, answer_of};
 
-use header::Header;
-use scanner::Stepped;
-use stream::{Answer, Checked, Stream, check};
+use scanner::Event;
+use stream::{Answer, Stream, check};
 use wire::Refusal;
 
 // The state with the header passed; what waits begins at from.
@@ -16,26 +15,22 @@ fn passed(stream: Stream, from: usize) -> Stream
 {
     Stream {
         start: from,
-        end: stream.end,
-        names: stream.names,
-        bytes: stream.bytes,
         header: true,
-        finished: stream.finished,
+        ..stream
     }
 }
 
-// The state after an event of so many bytes at from, which added so many names of so many bytes.
-fn advanced(stream: Stream, from: usize, len: usize, added: usize, bytes: usize) -> Stream
-    requires { Sums (stream_of stream) from len added bytes }
-    ensures { stream_of result ≡ later (stream_of stream) from len added bytes }
+// The state after an event at from, with the names that the event adds.
+fn advanced(stream: Stream, from: usize, event: Event) -> Stream
+    requires { Sums (stream_of stream) from event.len event.added event.bytes }
+    ensures { stream_of result ≡ later (stream_of stream) from event.len event.added event.bytes }
 {
     Stream {
-        start: from + len,
-        end: stream.end,
-        names: stream.names + added,
-        bytes: stream.bytes + bytes,
+        start: from + event.len,
+        names: stream.names + event.added,
+        bytes: stream.bytes + event.bytes,
         header: true,
-        finished: stream.finished,
+        ..stream
     }
 }
 
@@ -43,13 +38,10 @@ fn advanced(stream: Stream, from: usize, len: usize, added: usize, bytes: usize)
 fn at_end(stream: Stream, from: usize) -> bool
     ensures { result ≡ (stream.finished && eqb from stream.end) }
 {
-    if stream.finished {
-        return from == stream.end;
-    }
-    false
+    stream.finished && from == stream.end
 }
 
-// The event that stands in the window from a place past the header on.
+// The event that stands in the window from a place past the header on. The buffers stay parameters, as next is lent them: abx calls it so.
 fn next_from(
     stream: Stream,
     from: usize,
@@ -57,46 +49,32 @@ fn next_from(
     table: &mut [u32],
     store: &mut [u8],
     rows: &mut [u32],
-) -> Answer
+) -> Result<Answer, Refusal>
     requires fits { Fits (stream_of stream) (lend window.now table.old store.old) }
     requires from_le_end { from ≤ stream.end }
     ensures { answer_of stream (lend window.now table.new store.new) rows.new result ≡ next_from (stream_of stream) (lend window.now table.old store.old) rows.old from }
 {
     if at_end(stream, from) {
-        return Answer::End(passed(stream, from));
+        return Ok(Answer::End(passed(stream, from)));
     }
-    let end = stream.end;
-    let finished = stream.finished;
-    let names = stream.names;
-    let bytes = stream.bytes;
+    let waiting = &window[from..stream.end];
     match scanner::step(
-        &window[from..end],
+        waiting,
         from,
-        finished,
+        stream.finished,
         true,
-        names,
-        bytes,
+        stream.names,
+        stream.bytes,
         table,
         store,
         rows,
-    ) {
-        Stepped::Event {
-            rows,
-            len,
-            added,
-            bytes: more,
-            spare: _,
-        } => Answer::Event {
-            rows,
-            stream: advanced(stream, from, len, added, more),
-        },
-        Stepped::Incomplete => {
-            if end - from == window.len() {
-                return Answer::Refused(Refusal::new(Refusal::WINDOW_FULL));
-            }
-            Answer::NeedMore(passed(stream, from))
-        }
-        Stepped::Refused(r) => Answer::Refused(r),
+    )? {
+        Some(event) => Ok(Answer::Event {
+            rows: event.rows,
+            stream: advanced(stream, from, event),
+        }),
+        None if waiting.len() == window.len() => Err(Refusal::WindowFull),
+        None => Ok(Answer::NeedMore(passed(stream, from))),
     }
 }
 
@@ -107,22 +85,17 @@ fn next_header(
     table: &mut [u32],
     store: &mut [u8],
     rows: &mut [u32],
-) -> Answer
+) -> Result<Answer, Refusal>
     requires { Fits (stream_of stream) (lend window.now table.old store.old) }
     ensures { answer_of stream (lend window.now table.new store.new) rows.new result ≡ next_header (stream_of stream) (lend window.now table.old store.old) rows.old }
 {
-    let start = stream.start;
-    let end = stream.end;
-    if end - start < 4 {
-        if stream.finished {
-            return Answer::Refused(Refusal::new(Refusal::HEADER_SHORT));
-        }
-        return Answer::NeedMore(stream);
+    let waiting = &window[stream.start..stream.end];
+    if waiting.len() < header::MAGIC.len() && !stream.finished {
+        return Ok(Answer::NeedMore(stream));
     }
-    match header::check_magic(&window[start..end]) {
-        Header::Passed => next_from(stream, start + 4, window, table, store, rows),
-        Header::Refused(r) => Answer::Refused(r),
-    }
+    header::check_magic(waiting)?;
+    let from = stream.start + header::MAGIC.len();
+    next_from(stream, from, window, table, store, rows)
 }
 
 // The next event, if all of it waits.
@@ -132,17 +105,13 @@ pub fn next(
     table: &mut [u32],
     store: &mut [u8],
     rows: &mut [u32],
-) -> Answer
+) -> Result<Answer, Refusal>
     ensures { answer_of stream (lend window.now table.new store.new) rows.new result ≡ next (stream_of stream) (lend window.now table.old store.old) rows.old }
 {
-    match check(stream, window, table, store) {
-        Checked::Refused(n) => Answer::Refused(Refusal::new(n)),
-        Checked::Passed => {
-            if stream.header {
-                let start = stream.start;
-                return next_from(stream, start, window, table, store, rows);
-            }
-            next_header(stream, window, table, store, rows)
-        }
+    check(stream, window, table, store)?;
+    if stream.header {
+        next_from(stream, stream.start, window, table, store, rows)
+    } else {
+        next_header(stream, window, table, store, rows)
     }
 }

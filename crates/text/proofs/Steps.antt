@@ -1,25 +1,14 @@
 -- What a turn of each loop adds.
-use mathlib.Core.List.{List, [], ◌∷◌, ◌++◌, append_assoc}
-use mathlib.Core.Path.{◌≡◌, refl, sym, ap, ◌∙◌}
-use Prim.Native.Nat.{ℕ, zero, suc, ◌+◌, ◌*◌, ◌-◌, ◌/◌, ◌%◌, ◌^◌, ◌≤◌, ◌<◌}
-use native.Mathlib.Nat.{not-suc-le-zero}
-use native.Mathlib.Numerals.{add-one}
-use native.Mathlib.Omega.{arith}
-use lib.ListN.{length, get_or, set, take, drop, length-append, length-set, length-drop, take-append-drop}
-use lib.Seq.{sets, take_all, take-suc, drop-cons, length-sets, length-take-le}
+use Rattle.std.proofs.Common.{List, [], ◌∷◌, ◌++◌, append_assoc, ◌≡◌, refl, sym, ap, ◌∙◌, ℕ, zero, suc, ◌+◌, ◌*◌, ◌-◌, ◌/◌, ◌%◌, ◌^◌, ◌≤◌, ◌<◌, not-suc-le-zero, add-one, arith, length, get_or, set, take, drop, length-append, length-set, length-take-le, take_all, drop-cons}
+use Rattle.std.proofs.Math.Seq.{take-suc, length-sets}
+use Rattle.std.proofs.lemmas.List.{take-append-drop}
+use Rattle.std.proofs.lemmas.List.Edits.{sets}
 use Rattle.grammar.proofs.Stores.{sets-append}
 use Rattle.byte_copy.specs.Sets.{sets-past}
 use Rattle.text.specs.Numerals.{digit, hex, numeral, letter, pad, base64}
 use Rattle.text.specs.Put.{after, Put}
 use Rattle.text.specs.PutLaws.{put_both}
 use Rattle.text.specs.Laws.{numeral-one, numeral-more, one_less, hex-length, hex-append}
-
-pub put-length : (l : List ℕ) (at : ℕ) (t l' : List ℕ) (end : ℕ) → Put l at t l' end → length l' ≡ length l
-put-length l at t l' end p = ap length p.text ∙ length-sets l at t
-
--- the part of a list from a place on
-pub part-all : (s : List ℕ) (i : ℕ) → take (length s - i) (drop i s) ≡ drop i s
-part-all s i = take_all (length s - i) (drop i s) (omega (arith, length-drop i s))
 
 -- ---- the digits of a number, the last first
 
@@ -142,17 +131,11 @@ two-left (a ∷ []) x y z h f g e = absurd (omega arith)
 two-left (a ∷ b ∷ []) x y z h f g e = rw (f, g, e)
 two-left (a ∷ b ∷ c ∷ s) x y z h f g e = absurd (omega arith)
 
-quad-first : (a b c : ℕ) (s : List ℕ) → base64 (a ∷ b ∷ c ∷ s) ≡ base64 (a ∷ b ∷ c ∷ []) ++ base64 s
+-- three bytes and those after them
+pub quad-more : (s : List ℕ) → 3 ≤ length s
+    → base64 s ≡ base64 (get_or s 0 0 ∷ get_or s 1 0 ∷ get_or s 2 0 ∷ []) ++ base64 (take (length s - 3) (drop 3 s))
 unfolding base64
-quad-first a b c s = refl
-
-pub quad-more : (s : List ℕ) (i : ℕ) → i + 3 ≤ length s
-    → base64 (drop i s) ≡ base64 (get_or s i 0 ∷ get_or s (i + 1) 0 ∷ get_or s (i + 2) 0 ∷ []) ++ base64 (drop (i + 3) s)
-quad-more s i h =
-    let n₁ : suc i ≡ i + 1 = omega arith in
-    let n₂ : suc (i + 1) ≡ i + 2 = omega arith in
-    let n₃ : suc (i + 2) ≡ i + 3 = omega arith in
-    let a : drop i s ≡ get_or s i 0 ∷ drop (i + 1) s = rw (drop-cons s i 0 (omega arith), n₁) in
-    let b : drop (i + 1) s ≡ get_or s (i + 1) 0 ∷ drop (i + 2) s = rw (drop-cons s (i + 1) 0 (omega arith), n₂) in
-    let c : drop (i + 2) s ≡ get_or s (i + 2) 0 ∷ drop (i + 3) s = rw (drop-cons s (i + 2) 0 (omega arith), n₃) in
-    rw (a, b, c) (quad-first (get_or s i 0) (get_or s (i + 1) 0) (get_or s (i + 2) 0) (drop (i + 3) s))
+quad-more [] h = absurd (omega arith)
+quad-more (a ∷ []) h = absurd (omega arith)
+quad-more (a ∷ b ∷ []) h = absurd (omega arith)
+quad-more (a ∷ b ∷ c ∷ s) h = let e : length (a ∷ b ∷ c ∷ s) - 3 ≡ length s = omega arith in rw (e, take_all (length s) s (omega arith))

@@ -1,5 +1,5 @@
 -- Laws of numbers and bytes as text.
-use Rattle.std.specs.Prelude.{List, [], ◌∷◌, ◌++◌, ◌≡◌, refl, ℕ, zero, suc, ◌+◌, ◌*◌, ◌/◌, ◌%◌, ◌^◌, ◌≤◌, ◌<◌, ltb, length, drop}
+use Rattle.std.specs.Prelude.{List, [], ◌∷◌, ◌++◌, ◌≡◌, refl, ℕ, zero, suc, ◌+◌, ◌*◌, ◌/◌, ◌%◌, ◌^◌, ◌≤◌, ◌<◌, ltb, length}
 use Rattle.std.proofs.Common.{append_assoc, sym, ap, ◌∙◌, not-suc-le-zero, mul-le-mul_right, arith, lt-ltb, le-ltb, ltb-false}
 use Rattle.std.proofs.Math.Nat.{div-lt_self, mul-div-le}
 use Rattle.grammar.proofs.Choice.{by_test}
@@ -57,27 +57,25 @@ hex-append (b ∷ s) t = rw (hex-append s t)
 
 -- ---- a text put part by part
 
--- a text of the bytes s that has been put up to those from i on
-pub record Begun (text : List ℕ → List ℕ) (s l : List ℕ) (at i : ℕ) (l' : List ℕ) (end : ℕ) : Type 0 where
-  pub within : i ≤ length s
+-- a text of the bytes s that has been put up to the rest of them
+pub record Begun (text : List ℕ → List ℕ) (s l : List ℕ) (at : ℕ) (rest l' : List ℕ) (end : ℕ) : Type 0 where
   pub so_far : List ℕ
-  pub whole : so_far ++ text (drop i s) ≡ text s
+  pub whole : so_far ++ text rest ≡ text s
   pub there : Put l at so_far l' end
 
-pub begun_more : (text : List ℕ → List ℕ) (s l : List ℕ) (at i j : ℕ) (l₁ l₂ more : List ℕ) (e₁ e₂ : ℕ) → Begun text s l at i l₁ e₁ → j ≤ length s
-    → text (drop i s) ≡ more ++ text (drop j s) → Put l₁ e₁ more l₂ e₂ → Begun text s l at j l₂ e₂
-begun_more text s l at i j l₁ l₂ more e₁ e₂ b h e p =
+pub begun_more : (text : List ℕ → List ℕ) (s l : List ℕ) (at : ℕ) (r₁ r₂ l₁ l₂ more : List ℕ) (e₁ e₂ : ℕ) → Begun text s l at r₁ l₁ e₁
+    → text r₁ ≡ more ++ text r₂ → Put l₁ e₁ more l₂ e₂ → Begun text s l at r₂ l₂ e₂
+begun_more text s l at r₁ r₂ l₁ l₂ more e₁ e₂ b e p =
     record {
-      within = h;
       so_far = b.so_far ++ more;
-      whole = append_assoc b.so_far more (text (drop j s)) ∙ ap (λ (t : List ℕ). b.so_far ++ t) (sym e) ∙ b.whole;
+      whole = append_assoc b.so_far more (text r₂) ∙ ap (λ (t : List ℕ). b.so_far ++ t) (sym e) ∙ b.whole;
       there = put_both l at b.so_far more l₁ l₂ e₁ e₂ b.there p;
     }
 
-pub begun_all : (text : List ℕ → List ℕ) (s l : List ℕ) (at i : ℕ) (l₁ l₂ : List ℕ) (e₁ e₂ : ℕ) → Begun text s l at i l₁ e₁
-    → Put l₁ e₁ (text (drop i s)) l₂ e₂ → Put l at (text s) l₂ e₂
-begun_all text s l at i l₁ l₂ e₁ e₂ b p =
-    let all = put_both l at b.so_far (text (drop i s)) l₁ l₂ e₁ e₂ b.there p in
+pub begun_all : (text : List ℕ → List ℕ) (s l : List ℕ) (at : ℕ) (rest l₁ l₂ : List ℕ) (e₁ e₂ : ℕ) → Begun text s l at rest l₁ e₁
+    → Put l₁ e₁ (text rest) l₂ e₂ → Put l at (text s) l₂ e₂
+begun_all text s l at rest l₁ l₂ e₁ e₂ b p =
+    let all = put_both l at b.so_far (text rest) l₁ l₂ e₁ e₂ b.there p in
     rw b.whole at all
 
 pub base64-length : (s : List ℕ) → length (base64 s) ≡ (length s + 2) / 3 * 4

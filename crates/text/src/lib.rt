@@ -9,16 +9,11 @@ ghost use Rattle.text.specs.Put.{after, Put};
 ghost use Rattle.wire.specs.Header.{be32};
 
 // The place after so many bytes, or the limit where they pass it.
+#[tactic(auto, unfolding(crate::specs::Put::after))]
 pub fn after(limit: usize, at: usize, n: usize) -> usize
     ensures { result ≡ after limit at n }
 {
-    if limit <= at {
-        return limit;
-    }
-    if limit - at <= n {
-        return limit;
-    }
-    at + n
+    at.saturating_add(n).min(limit)
 }
 
 pub fn put(s: &[u8], out: &mut [u8], at: usize) -> usize
@@ -54,19 +49,10 @@ fn put_pairs(s: &[u8], out: &mut [u8], at: usize)
     requires { at + 2 * length s.now ≤ length out.old }
     ensures { out.new ≡ sets out.old at (hex s.now) }
 {
-    let mut i = 0;
-    while i < s.len() {
-        let place = at + 2 * i;
-        out[place] = digit(s[i] / 16);
-        out[place + 1] = digit(s[i] % 16);
-        i += 1;
+    for (i, b) in s.iter().enumerate() {
+        out[at + 2 * i] = digit(*b / 16);
+        out[at + 2 * i + 1] = digit(*b % 16);
     }
-}
-
-fn least(a: usize, b: usize) -> usize
-    ensures { result ≡ min a b }
-{
-    if a < b { a } else { b }
 }
 
 // Two digits for each byte. Where not all have room, the last to have it may be a byte's first.
@@ -76,7 +62,7 @@ pub fn put_hex(s: &[u8], out: &mut [u8], at: usize) -> usize
     if out.len() <= at {
         return out.len();
     }
-    let n = least(s.len(), (out.len() - at) / 2);
+    let n = s.len().min((out.len() - at) / 2);
     put_pairs(&s[..n], out, at);
     if n < s.len() {
         return put_byte(digit(s[n] / 16), out, at + 2 * n);
@@ -86,23 +72,23 @@ pub fn put_hex(s: &[u8], out: &mut [u8], at: usize) -> usize
 
 // ---- numbers
 
-// A number's digits: the last of the bytes, from a start on.
+// A number's digits: the last of the bytes, from a start on. The fields stay: `decimal` and `hexadecimal` promise by their names.
 #[derive(Clone, Copy)]
 pub struct Numeral {
     pub bytes: [u8; 20],
     pub start: usize,
 }
 
-fn digits(base: u64, n: u64) -> Numeral
-    requires { (10 ≤ base) × (base ≤ 16) }
-    ensures { (drop result.start result.bytes ≡ numeral base n) × (result.start < 20) × (length result.bytes ≡ 20) }
+fn digits<const BASE: u64>(n: u64) -> Numeral
+    requires { (10 ≤ BASE) × (BASE ≤ 16) }
+    ensures { (drop result.start result.bytes ≡ numeral BASE n) × (result.start < 20) × (length result.bytes ≡ 20) }
 {
     let mut bytes = [0u8; 20];
     let mut start: usize = 19;
     let mut left = n;
-    while left >= base {
-        bytes[start] = digit((left % base) as u8);
-        left /= base;
+    while left >= BASE {
+        bytes[start] = digit((left % BASE) as u8);
+        left /= BASE;
         start -= 1;
     }
     bytes[start] = digit(left as u8);
@@ -112,13 +98,13 @@ fn digits(base: u64, n: u64) -> Numeral
 pub fn decimal(n: u64) -> Numeral
     ensures { (drop result.start result.bytes ≡ numeral 10 n) × (result.start < 20) × (length result.bytes ≡ 20) }
 {
-    digits(10, n)
+    digits::<10>(n)
 }
 
 pub fn hexadecimal(n: u64) -> Numeral
     ensures { (drop result.start result.bytes ≡ numeral 16 n) × (result.start < 20) × (length result.bytes ≡ 20) }
 {
-    digits(16, n)
+    digits::<16>(n)
 }
 
 // ---- base64
@@ -156,20 +142,20 @@ fn put_rest(s: &[u8], out: &mut [u8], at: usize) -> usize
     requires { length s.now < 3 }
     ensures { Put out.old at (base64 s.now) out.new result }
 {
-    if s.len() == 0 {
-        return after(out.len(), at, 0);
+    match s {
+        [a] => put(&[letter(*a / 4), letter(*a % 4 * 16), b'=', b'='], out, at),
+        [a, b] => put(
+            &[
+                letter(*a / 4),
+                letter(*a % 4 * 16 + *b / 16),
+                letter(*b % 16 * 4),
+                b'=',
+            ],
+            out,
+            at,
+        ),
+        _ => after(out.len(), at, 0),
     }
-    let mut quad = [0u8; 4];
-    quad[0] = letter(s[0] / 4);
-    quad[3] = b'=';
-    if s.len() == 1 {
-        quad[1] = letter(s[0] % 4 * 16);
-        quad[2] = b'=';
-        return put(&quad, out, at);
-    }
-    quad[1] = letter(s[0] % 4 * 16 + s[1] / 16);
-    quad[2] = letter(s[1] % 16 * 4);
-    put(&quad, out, at)
 }
 
 // RFC 4648's base64, padded.
@@ -177,22 +163,18 @@ pub fn put_base64(s: &[u8], out: &mut [u8], at: usize) -> usize
     ensures { Put out.old at (base64 s.now) out.new result }
 {
     let mut place = after(out.len(), at, 0);
-    let mut i = 0;
-    while s.len() - i >= 3 {
-        place = put(&quad(s[i], s[i + 1], s[i + 2]), out, place);
-        i += 3;
+    let mut rest = s;
+    while let [a, b, c, tail @ ..] = rest {
+        place = put(&quad(*a, *b, *c), out, place);
+        rest = tail;
     }
-    put_rest(&s[i..], out, place)
+    put_rest(rest, out, place)
 }
 
 // The bytes of a number on the wire.
+#[tactic(auto, unfolding(wire::specs::Header::be32))]
 pub fn word(b: u32) -> [u8; 4]
     ensures { result ≡ be32 b }
 {
-    [
-        (b / 16_777_216 % 256) as u8,
-        (b / 65_536 % 256) as u8,
-        (b / 256 % 256) as u8,
-        (b % 256) as u8,
-    ]
+    b.to_be_bytes()
 }

@@ -70,12 +70,8 @@ module _ (s : List ℕ) (i : ℕ) where
   w = get_or s (i + 3) 0
 
   module _ (h : i < length s) where
-    stays : well_formed (drop i s) ≡ false → Character s i 0
-    unfolding well_formed octets
-    stays e = record { inside = omega arith; whole = refl; stuck = λ q. e }
-
     goes : (n : ℕ) → 0 < n → i + n ≤ length s → well_formed (take n (drop i s)) ≡ true → Character s i n
-    goes n l m e = record { inside = m; whole = e; stuck = λ r. absurd (omega arith) }
+    goes n l m e = record { some = l; inside = m; whole = e }
 
     starts : well_formed (drop i s) ≡ well_formed (x ∷ drop (i + 1) s)
     starts = rw (add-one, drop-cons s i 0 h)
@@ -100,32 +96,31 @@ module _ (s : List ℕ) (i : ℕ) where
         ∙ eats s (i + 1) (second x) (third-on x) (within-second x 0)
         ∙ rw (within-second x y, q))
 
-    pub no-first : 0x80 ≤ x → x < 0xC2 → Character s i 0
-    no-first l m = stays (reads l ∙ rw (stray-low x l m))
+    pub no-first : 0x80 ≤ x → x < 0xC2 → well_formed (drop i s) ≡ false
+    no-first l m = reads l ∙ rw (stray-low x l m)
 
     module _ (l : 0xC2 ≤ x) where
-      pub too-high : 0xF5 ≤ x → Character s i 0
-      too-high m = stays (reads (omega arith) ∙ rw (stray-high x m))
+      pub too-high : 0xF5 ≤ x → well_formed (drop i s) ≡ false
+      too-high m = reads (omega arith) ∙ rw (stray-high x m)
 
-      pub no_second : within UTF8-tail y ≡ false → Character s i 0
-      no_second f = stays (reads (omega arith) ∙ simp (f, and-false))
+      pub no_second : within UTF8-tail y ≡ false → well_formed (drop i s) ≡ false
+      no_second f = reads (omega arith) ∙ simp (f, and-false)
 
-      pub barred-second : barred x y ≡ true → Character s i 0
-      barred-second f = stays (reads (omega arith) ∙ simp (f, and-false))
+      pub barred-second : barred x y ≡ true → well_formed (drop i s) ≡ false
+      barred-second f = reads (omega arith) ∙ simp (f, and-false)
 
-      pub no_third : 0xE0 ≤ x → within UTF8-tail z ≡ false → Character s i 0
+      pub no_third : 0xE0 ≤ x → within UTF8-tail z ≡ false → well_formed (drop i s) ≡ false
       no_third m g =
-          stays
-          (reads (omega arith)
+          reads (omega arith)
           ∙ split (λ (p : Bool). (not (stray x) && (taken x y && octets (tails p (leb 0xE0 x)) (drop (i + 2) s))) ≡ false)
           (leb 0xF0 x)
           (λ p. simp (eats-tail s (i + 2), g, and-false))
-          (λ p. simp (le-leb 0xE0 x m, eats-tail s (i + 2), g, and-false)))
+          (λ p. simp (le-leb 0xE0 x m, eats-tail s (i + 2), g, and-false))
 
-      pub no-fourth : 0xF0 ≤ x → within UTF8-tail w ≡ false → Character s i 0
+      pub no-fourth : 0xF0 ≤ x → within UTF8-tail w ≡ false → well_formed (drop i s) ≡ false
       no-fourth m g =
           let q : i + 2 + 1 ≡ i + 3 = omega arith in
-          stays (reads (omega arith) ∙ simp (le-leb 0xF0 x m, eats-tail s (i + 2), q, eats-tail s (i + 3), g, and-false))
+          reads (omega arith) ∙ simp (le-leb 0xF0 x m, eats-tail s (i + 2), q, eats-tail s (i + 3), g, and-false)
 
       module _ (m : x < 0xF5) (t : within UTF8-tail y ≡ true) (b : barred x y ≡ false) where
         second-inside : i + 1 < length s
@@ -167,9 +162,9 @@ module _ (s : List ℕ) (i : ℕ) where
           (simp (lt-leb 0xF0 x (omega arith), lt-leb 0xE0 x m)))
 
 -- from character to character
-module _ (s : List ℕ) (k n : ℕ) (c : Character s k n) (p : well_formed (take k s) ≡ true) where
-  pub reaches : well_formed (take (k + n) s) ≡ true
-  reaches = rw (take-add k n s) (append (take k s) (take n (drop k s)) p c.whole)
+module _ (s : List ℕ) (k : ℕ) (p : well_formed (take k s) ≡ true) where
+  pub reaches : (n : ℕ) → Character s k n → well_formed (take (k + n) s) ≡ true
+  reaches n c = rw (take-add k n s) (append (take k s) (take n (drop k s)) p c.whole)
 
-  pub halts : n ≡ 0 → well_formed s ≡ false
-  halts q = rw (take-append-drop k s) at (append-is (take k s) (drop k s) p) ∙ c.stuck q
+  pub halts : well_formed (drop k s) ≡ false → well_formed s ≡ false
+  halts e = rw (take-append-drop k s) at (append-is (take k s) (drop k s) p) ∙ e

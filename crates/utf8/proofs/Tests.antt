@@ -3,10 +3,9 @@
 use Prim.Native.Nat.{ℕ, zero, suc, ◌<◌}
 use native.Mathlib.Omega.{arith}
 use native.Mathlib.Nat.{eq-or-lt_of_le, le_of_suc-le-suc}
-use mathlib.Core.Path.{◌≡◌, refl, sym, ◌∙◌}
+use mathlib.Core.Path.{◌≡◌, refl, sym}
 use mathlib.Core.Logic.{⊎_elim}
-use mathlib.Core.Bool.{Bool, true, false, ◌&&◌, ◌||◌, not, beq, and-eq-true_iff, false≢true}
-use borrow.Author.Tests.{not-true, not-false}
+use mathlib.Core.Bool.{Bool, true, false, ◌&&◌, ◌||◌, beq, and-eq-true_iff, false≢true}
 
 pub split : (P : Bool → Type 0) (b : Bool) → (b ≡ true → P true) → (b ≡ false → P false) → P b
 split P true f g = f refl
@@ -21,13 +20,6 @@ beq→eq true true e = refl
 beq→eq true false e = absurd (false≢true e)
 beq→eq false true e = absurd (false≢true e)
 beq→eq false false e = refl
-
--- what a call's answer r is, by a branch on `!r`
-pub fails : (r b : Bool) → r ≡ b → not r ≡ true → b ≡ false
-fails r b e f = sym e ∙ not-true r f
-
-pub holds : (r b : Bool) → r ≡ b → not r ≡ false → b ≡ true
-holds r b e f = sym e ∙ not-false r f
 
 abbrev pub below : ℕ → (ℕ → Bool) → Bool
 below zero f = true

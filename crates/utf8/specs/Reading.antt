@@ -4,23 +4,27 @@ use Rattle.std.specs.Prelude.{ℕ, ◌+◌, ◌≤◌, ◌<◌, ◌≡◌, Bool,
 use Rattle.std.specs.Bool.{beq}
 use Rattle.utf8.specs.Utf8.{Range, ◌to◌, within, UTF8-tail, octets, well_formed}
 
+-- ASCII but NUL
+abbrev pub ascii : ℕ → Bool
+ascii x = leb 1 x && ltb x 0x80
+
 -- octets of ASCII stand from i up to j
 pub record Ascii (s : List ℕ) (i j : ℕ) : Type 0 where
   pub from : i ≤ j
   pub inside : j ≤ length s
   pub low : (k : ℕ) → i ≤ k → k < j → get_or s k 0 < 0x80
 
--- a UTF8-char of n octets stands at i; none does where n is 0
+-- a UTF8-char of n octets stands at i
 pub record Character (s : List ℕ) (i n : ℕ) : Type 0 where
+  pub some : 0 < n
   pub inside : i + n ≤ length s
   pub whole : well_formed (take n (drop i s)) ≡ true
-  pub stuck : n ≡ 0 → well_formed (drop i s) ≡ false
 
--- s is well-formed up to r; below j the next character is not
+-- s is well-formed up to r, which is j or past it
 pub record Walk (s : List ℕ) (j r : ℕ) : Type 0 where
+  pub far : j ≤ r
   pub inside : r ≤ length s
   pub whole : well_formed (take r s) ≡ true
-  pub stuck : r < j → well_formed s ≡ false
 
 -- C0, C1 and F5 to FF
 abbrev pub never : ℕ → Bool

@@ -3,3 +3,5 @@ pub mod Refusal
 pub mod Limits
 pub mod Header
 pub mod Laws
+pub mod Answers
+pub mod Commands

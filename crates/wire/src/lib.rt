@@ -7,16 +7,34 @@ pub mod tokens;
 ghost use Rattle.std.specs.Prelude.{◌≡◌};
 ghost use Rattle.wire.specs.Token.{command_in, type_in, commands, types};
 ghost use Rattle.wire.specs.Refusal.{refusals};
+ghost use Rattle.wire.specs.Answers.{number_of, detail_of};
+ghost use Rattle.wire.specs.Commands.{command_number, IsCommand, type_number, IsType};
 ghost use Rattle.wire.specs.Header.{u32_of};
 
 // The index that means a new name follows.
 pub const INTERNED_NEW: u32 = 65535;
 
-// What a token is: an event's kind, or an attribute of a start tag. The numbers are words of a row, so they are u32.
-#[derive(Clone, Copy)]
-pub struct Command(pub u32);
+// What a token is, and a row: an event's kind, or an attribute of a start tag.
+#[derive(Clone, Copy, Debug, PartialEq, Eq)]
+pub enum Command {
+    StartDocument,
+    EndDocument,
+    StartTag,
+    EndTag,
+    Text,
+    Cdata,
+    EntityRef,
+    IgnorableWhitespace,
+    ProcessingInstruction,
+    Comment,
+    DocDecl,
+    Attribute,
+    // Any other number.
+    Unknown(u32),
+}
 
 impl Command {
+    // The numbers, for code that compares the words of rows: as numbers, which is quicker in a loop over rows (crate forms).
     pub const START_DOCUMENT: u32 = 0;
 
     pub const END_DOCUMENT: u32 = 1;
@@ -43,37 +61,98 @@ impl Command {
 
     // The command of a token, by a token table.
     pub fn new(table: &[u16; 256], token: u8) -> Command
-        ensures { result.0 ≡ command_in table.now token }
+        ensures number { command_number result ≡ command_in table.now token }
+        ensures which { IsCommand (command_in table.now token) result }
     {
-        Command((table[token as usize] % 256) as u32)
+        Command::from((table[token as usize] % 256) as u32)
     }
 
-    // All of them, in order.
+    // The number on the wire and in a row.
+    pub fn number(self) -> u32
+        ensures { result ≡ command_number self }
+    {
+        match self {
+            Command::StartDocument => 0,
+            Command::EndDocument => 1,
+            Command::StartTag => 2,
+            Command::EndTag => 3,
+            Command::Text => 4,
+            Command::Cdata => 5,
+            Command::EntityRef => 6,
+            Command::IgnorableWhitespace => 7,
+            Command::ProcessingInstruction => 8,
+            Command::Comment => 9,
+            Command::DocDecl => 10,
+            Command::Attribute => 15,
+            Command::Unknown(number) => number,
+        }
+    }
+
+    // All numbers, in order.
     pub fn all() -> [u32; 12]
         ensures { result ≡ commands }
     {
         [
-            Command::START_DOCUMENT,
-            Command::END_DOCUMENT,
-            Command::START_TAG,
-            Command::END_TAG,
-            Command::TEXT,
-            Command::CDATA,
-            Command::ENTITY_REF,
-            Command::IGNORABLE_WHITESPACE,
-            Command::PROCESSING_INSTRUCTION,
-            Command::COMMENT,
-            Command::DOC_DECL,
-            Command::ATTRIBUTE,
+            Command::StartDocument.number(),
+            Command::EndDocument.number(),
+            Command::StartTag.number(),
+            Command::EndTag.number(),
+            Command::Text.number(),
+            Command::Cdata.number(),
+            Command::EntityRef.number(),
+            Command::IgnorableWhitespace.number(),
+            Command::ProcessingInstruction.number(),
+            Command::Comment.number(),
+            Command::DocDecl.number(),
+            Command::Attribute.number(),
         ]
     }
 }
 
+impl From<u32> for Command {
+    ghost from_gives = { λ number it. (command_number it ≡ number) × IsCommand number it };
+
+    fn from(number: u32) -> Command {
+        match number {
+            0 => Command::StartDocument,
+            1 => Command::EndDocument,
+            2 => Command::StartTag,
+            3 => Command::EndTag,
+            4 => Command::Text,
+            5 => Command::Cdata,
+            6 => Command::EntityRef,
+            7 => Command::IgnorableWhitespace,
+            8 => Command::ProcessingInstruction,
+            9 => Command::Comment,
+            10 => Command::DocDecl,
+            15 => Command::Attribute,
+            _ => Command::Unknown(number),
+        }
+    }
+}
+
 // How a token's value is written.
-#[derive(Clone, Copy)]
-pub struct Type(pub u32);
+#[derive(Clone, Copy, Debug, PartialEq, Eq)]
+pub enum Type {
+    Null,
+    String,
+    StringInterned,
+    BytesHex,
+    BytesBase64,
+    Int,
+    IntHex,
+    Long,
+    LongHex,
+    Float,
+    Double,
+    BooleanTrue,
+    BooleanFalse,
+    // Any other number.
+    Unknown(u32),
+}
 
 impl Type {
+    // The numbers, for code that compares the words of rows: as numbers, which is quicker in a loop over rows (crate forms).
     pub const NULL: u32 = 1;
 
     pub const STRING: u32 = 2;
@@ -102,136 +181,238 @@ impl Type {
 
     // The type of a token, by a token table.
     pub fn new(table: &[u16; 256], token: u8) -> Type
-        ensures { result.0 ≡ type_in table.now token }
+        ensures number { type_number result ≡ type_in table.now token }
+        ensures which { IsType (type_in table.now token) result }
     {
-        Type((table[token as usize] / 256 % 256) as u32)
+        Type::from((table[token as usize] / 256 % 256) as u32)
     }
 
-    // All of them, in order.
+    // The number on the wire and in a row.
+    pub fn number(self) -> u32
+        ensures { result ≡ type_number self }
+    {
+        match self {
+            Type::Null => 1,
+            Type::String => 2,
+            Type::StringInterned => 3,
+            Type::BytesHex => 4,
+            Type::BytesBase64 => 5,
+            Type::Int => 6,
+            Type::IntHex => 7,
+            Type::Long => 8,
+            Type::LongHex => 9,
+            Type::Float => 10,
+            Type::Double => 11,
+            Type::BooleanTrue => 12,
+            Type::BooleanFalse => 13,
+            Type::Unknown(number) => number,
+        }
+    }
+
+    // All numbers, in order.
     pub fn all() -> [u32; 13]
         ensures { result ≡ types }
     {
         [
-            Type::NULL,
-            Type::STRING,
-            Type::STRING_INTERNED,
-            Type::BYTES_HEX,
-            Type::BYTES_BASE64,
-            Type::INT,
-            Type::INT_HEX,
-            Type::LONG,
-            Type::LONG_HEX,
-            Type::FLOAT,
-            Type::DOUBLE,
-            Type::BOOLEAN_TRUE,
-            Type::BOOLEAN_FALSE,
+            Type::Null.number(),
+            Type::String.number(),
+            Type::StringInterned.number(),
+            Type::BytesHex.number(),
+            Type::BytesBase64.number(),
+            Type::Int.number(),
+            Type::IntHex.number(),
+            Type::Long.number(),
+            Type::LongHex.number(),
+            Type::Float.number(),
+            Type::Double.number(),
+            Type::BooleanTrue.number(),
+            Type::BooleanFalse.number(),
         ]
     }
 }
 
-// Why a call was refused: a number and a detail, which is 0 where none is named.
-#[derive(Clone, Copy)]
-pub struct Refusal {
-    pub number: u32,
-    pub detail: u32,
+impl From<u32> for Type {
+    ghost from_gives = { λ number it. (type_number it ≡ number) × IsType number it };
+
+    fn from(number: u32) -> Type {
+        match number {
+            1 => Type::Null,
+            2 => Type::String,
+            3 => Type::StringInterned,
+            4 => Type::BytesHex,
+            5 => Type::BytesBase64,
+            6 => Type::Int,
+            7 => Type::IntHex,
+            8 => Type::Long,
+            9 => Type::LongHex,
+            10 => Type::Float,
+            11 => Type::Double,
+            12 => Type::BooleanTrue,
+            13 => Type::BooleanFalse,
+            _ => Type::Unknown(number),
+        }
+    }
+}
+
+// Why a call was refused. What a variant carries is the refusal's detail; the others have 0 for it.
+#[derive(Clone, Copy, Debug, PartialEq, Eq)]
+pub enum Refusal {
+    // The input ends inside the header.
+    HeaderShort,
+    // The header is other bytes: these, as a u32.
+    InvalidMagic(u32),
+    // The input ends inside a token, length, index or number.
+    UnexpectedEof,
+    // The input ends inside a string's bytes.
+    StringShort,
+    // The input ends inside a blob's bytes.
+    BytesShort,
+    // No such entry in the pool: the index.
+    BadInternedIndex(u32),
+    // A string that breaks RFC 3629.
+    InvalidUtf8,
+    // An attribute of type 0, 14 or 15: the type times 16.
+    UnknownAttributeType(u32),
+    // Command 11 to 14, or an attribute outside a start tag: the command.
+    UnknownCommand(u32),
+    // Too few whole rows for the event.
+    RowsFull,
+    // The pool table is too short for the new names.
+    PoolFull,
+    // The name store is too short for the new names' bytes.
+    NamesFull,
+    // An incomplete event fills the window.
+    WindowFull,
+    // A string or blob of over 65,535 bytes: its length.
+    ValueTooLong(u32),
+    // The output is too short.
+    OutputFull,
+    // Words that form no rows, or a span that ends outside its store.
+    NotRows,
+    // A lent buffer of a length that no call takes.
+    BadSize,
+    // A feed or finish after a finish.
+    AlreadyFinished,
+    // A state's count or place, or a pool span, outside its buffer.
+    BadState,
+    // A character outside XML 1.0's Char production.
+    IllegalChar,
+    // A part of a stored version is missing or unfit. This refusal and those after it no call gives yet.
+    PartMissing,
+    // A version above the newest, or 0.
+    NoSuchVersion,
+    // Too few unused blocks at the end of a store of versions, or no number left for one more.
+    StoreFull,
+    // An exercise of over 1,000 events.
+    ExerciseTooLong,
+    // The event passes its caller's limit.
+    CallerLimit,
+    // A token table of another length, or that breaks the tables' rule.
+    BadTokenTable,
+    // A sign-on record that lacks an Int, or whose panel's times fall.
+    BadSignOn,
+    // Times that may be over 60 seconds apart.
+    BadTolerance,
+    // An idle limit outside 1 to 480 minutes.
+    BadIdleLimit,
+    // A use that lacks an Int, or is out of range or out of order.
+    BadUse,
+    // Any other number and detail: a caller may ask for the words of a refusal that no call gives.
+    Other { number: u32, detail: u32 },
 }
 
 impl Refusal {
-    // The input ends inside the header.
-    pub const HEADER_SHORT: u32 = 1;
-
-    // The header is other bytes; detail: these, as a u32.
-    pub const INVALID_MAGIC: u32 = 2;
-
-    // The input ends inside a token, length, index or number.
-    pub const UNEXPECTED_EOF: u32 = 3;
-
-    // The input ends inside a string's bytes.
-    pub const STRING_SHORT: u32 = 4;
-
-    // The input ends inside a blob's bytes.
-    pub const BYTES_SHORT: u32 = 5;
-
-    // No such entry in the pool; detail: the index.
-    pub const BAD_INTERNED_INDEX: u32 = 6;
-
-    // A string that breaks RFC 3629.
-    pub const INVALID_UTF8: u32 = 7;
-
-    // An attribute of type 0, 14 or 15; detail: the type times 16.
-    pub const UNKNOWN_ATTRIBUTE_TYPE: u32 = 8;
-
-    // Command 11 to 14, or an attribute outside a start tag; detail: the command.
-    pub const UNKNOWN_COMMAND: u32 = 9;
-
-    // Too few whole rows for the event.
-    pub const ROWS_FULL: u32 = 10;
-
-    // The pool table is too short for the new names.
-    pub const POOL_FULL: u32 = 11;
-
-    // The name store is too short for the new names' bytes.
-    pub const NAMES_FULL: u32 = 12;
-
-    // An incomplete event fills the window.
-    pub const WINDOW_FULL: u32 = 13;
-
-    // A string or blob of over 65,535 bytes; detail: its length.
-    pub const VALUE_TOO_LONG: u32 = 14;
-
-    // The output is too short.
-    pub const OUTPUT_FULL: u32 = 15;
-
-    // Words that form no rows, or a span that ends outside its store.
-    pub const NOT_ROWS: u32 = 16;
-
-    // A lent buffer of a length that no call takes.
-    pub const BAD_SIZE: u32 = 17;
-
-    // A feed or finish after a finish.
-    pub const ALREADY_FINISHED: u32 = 18;
-
-    // A state's count or place, or a pool span, outside its buffer.
-    pub const BAD_STATE: u32 = 19;
-
-    // A character outside XML 1.0's Char production.
-    pub const ILLEGAL_CHAR: u32 = 20;
-
-    // A part of a stored version is missing or unfit. This number and those after it no call gives yet.
-    pub const PART_MISSING: u32 = 21;
-
-    // A version above the newest, or 0.
-    pub const NO_SUCH_VERSION: u32 = 22;
-
-    // Too few unused blocks at the end of a store of versions, or no number left for one more.
-    pub const STORE_FULL: u32 = 23;
-
-    // An exercise of over 1,000 events.
-    pub const EXERCISE_TOO_LONG: u32 = 24;
-
-    // The event passes its caller's limit.
-    pub const CALLER_LIMIT: u32 = 25;
-
-    // A token table of another length, or that breaks the tables' rule.
-    pub const BAD_TOKEN_TABLE: u32 = 26;
-
-    // A sign-on record that lacks an Int, or whose panel's times fall.
-    pub const BAD_SIGN_ON: u32 = 27;
-
-    // Times that may be over 60 seconds apart.
-    pub const BAD_TOLERANCE: u32 = 28;
-
-    // An idle limit outside 1 to 480 minutes.
-    pub const BAD_IDLE_LIMIT: u32 = 29;
-
-    // A use that lacks an Int, or is out of range or out of order.
-    pub const BAD_USE: u32 = 30;
-
-    // A refusal whose detail is 0.
+    // The refusal of this number whose detail is 0.
     pub fn new(number: u32) -> Refusal
-        ensures { (result.number ≡ number) × (result.detail ≡ 0) }
+        ensures { (number_of result ≡ number) × (detail_of result ≡ 0) }
     {
-        Refusal { number, detail: 0 }
+        match number {
+            1 => Refusal::HeaderShort,
+            2 => Refusal::InvalidMagic(0),
+            3 => Refusal::UnexpectedEof,
+            4 => Refusal::StringShort,
+            5 => Refusal::BytesShort,
+            6 => Refusal::BadInternedIndex(0),
+            7 => Refusal::InvalidUtf8,
+            8 => Refusal::UnknownAttributeType(0),
+            9 => Refusal::UnknownCommand(0),
+            10 => Refusal::RowsFull,
+            11 => Refusal::PoolFull,
+            12 => Refusal::NamesFull,
+            13 => Refusal::WindowFull,
+            14 => Refusal::ValueTooLong(0),
+            15 => Refusal::OutputFull,
+            16 => Refusal::NotRows,
+            17 => Refusal::BadSize,
+            18 => Refusal::AlreadyFinished,
+            19 => Refusal::BadState,
+            20 => Refusal::IllegalChar,
+            21 => Refusal::PartMissing,
+            22 => Refusal::NoSuchVersion,
+            23 => Refusal::StoreFull,
+            24 => Refusal::ExerciseTooLong,
+            25 => Refusal::CallerLimit,
+            26 => Refusal::BadTokenTable,
+            27 => Refusal::BadSignOn,
+            28 => Refusal::BadTolerance,
+            29 => Refusal::BadIdleLimit,
+            30 => Refusal::BadUse,
+            _ => Refusal::Other { number, detail: 0 },
+        }
+    }
+
+    // The number by which C is told of it.
+    pub fn number(self) -> u32
+        ensures { result ≡ number_of self }
+    {
+        match self {
+            Refusal::HeaderShort => 1,
+            Refusal::InvalidMagic(_) => 2,
+            Refusal::UnexpectedEof => 3,
+            Refusal::StringShort => 4,
+            Refusal::BytesShort => 5,
+            Refusal::BadInternedIndex(_) => 6,
+            Refusal::InvalidUtf8 => 7,
+            Refusal::UnknownAttributeType(_) => 8,
+            Refusal::UnknownCommand(_) => 9,
+            Refusal::RowsFull => 10,
+            Refusal::PoolFull => 11,
+            Refusal::NamesFull => 12,
+            Refusal::WindowFull => 13,
+            Refusal::ValueTooLong(_) => 14,
+            Refusal::OutputFull => 15,
+            Refusal::NotRows => 16,
+            Refusal::BadSize => 17,
+            Refusal::AlreadyFinished => 18,
+            Refusal::BadState => 19,
+            Refusal::IllegalChar => 20,
+            Refusal::PartMissing => 21,
+            Refusal::NoSuchVersion => 22,
+            Refusal::StoreFull => 23,
+            Refusal::ExerciseTooLong => 24,
+            Refusal::CallerLimit => 25,
+            Refusal::BadTokenTable => 26,
+            Refusal::BadSignOn => 27,
+            Refusal::BadTolerance => 28,
+            Refusal::BadIdleLimit => 29,
+            Refusal::BadUse => 30,
+            Refusal::Other { number, detail: _ } => number,
+        }
+    }
+
+    // The detail, or 0.
+    pub fn detail(self) -> u32
+        ensures { result ≡ detail_of self }
+    {
+        match self {
+            Refusal::InvalidMagic(found) => found,
+            Refusal::BadInternedIndex(index) => index,
+            Refusal::UnknownAttributeType(type_) => type_,
+            Refusal::UnknownCommand(command) => command,
+            Refusal::ValueTooLong(len) => len,
+            Refusal::Other { number: _, detail } => detail,
+            _ => 0,
+        }
     }
 
     // All numbers, in order.
@@ -239,36 +420,36 @@ impl Refusal {
         ensures { result ≡ refusals }
     {
         [
-            Refusal::HEADER_SHORT,
-            Refusal::INVALID_MAGIC,
-            Refusal::UNEXPECTED_EOF,
-            Refusal::STRING_SHORT,
-            Refusal::BYTES_SHORT,
-            Refusal::BAD_INTERNED_INDEX,
-            Refusal::INVALID_UTF8,
-            Refusal::UNKNOWN_ATTRIBUTE_TYPE,
-            Refusal::UNKNOWN_COMMAND,
-            Refusal::ROWS_FULL,
-            Refusal::POOL_FULL,
-            Refusal::NAMES_FULL,
-            Refusal::WINDOW_FULL,
-            Refusal::VALUE_TOO_LONG,
-            Refusal::OUTPUT_FULL,
-            Refusal::NOT_ROWS,
-            Refusal::BAD_SIZE,
-            Refusal::ALREADY_FINISHED,
-            Refusal::BAD_STATE,
-            Refusal::ILLEGAL_CHAR,
-            Refusal::PART_MISSING,
-            Refusal::NO_SUCH_VERSION,
-            Refusal::STORE_FULL,
-            Refusal::EXERCISE_TOO_LONG,
-            Refusal::CALLER_LIMIT,
-            Refusal::BAD_TOKEN_TABLE,
-            Refusal::BAD_SIGN_ON,
-            Refusal::BAD_TOLERANCE,
-            Refusal::BAD_IDLE_LIMIT,
-            Refusal::BAD_USE,
+            Refusal::HeaderShort.number(),
+            Refusal::InvalidMagic(0).number(),
+            Refusal::UnexpectedEof.number(),
+            Refusal::StringShort.number(),
+            Refusal::BytesShort.number(),
+            Refusal::BadInternedIndex(0).number(),
+            Refusal::InvalidUtf8.number(),
+            Refusal::UnknownAttributeType(0).number(),
+            Refusal::UnknownCommand(0).number(),
+            Refusal::RowsFull.number(),
+            Refusal::PoolFull.number(),
+            Refusal::NamesFull.number(),
+            Refusal::WindowFull.number(),
+            Refusal::ValueTooLong(0).number(),
+            Refusal::OutputFull.number(),
+            Refusal::NotRows.number(),
+            Refusal::BadSize.number(),
+            Refusal::AlreadyFinished.number(),
+            Refusal::BadState.number(),
+            Refusal::IllegalChar.number(),
+            Refusal::PartMissing.number(),
+            Refusal::NoSuchVersion.number(),
+            Refusal::StoreFull.number(),
+            Refusal::ExerciseTooLong.number(),
+            Refusal::CallerLimit.number(),
+            Refusal::BadTokenTable.number(),
+            Refusal::BadSignOn.number(),
+            Refusal::BadTolerance.number(),
+            Refusal::BadIdleLimit.number(),
+            Refusal::BadUse.number(),
         ]
     }
 }
@@ -277,5 +458,5 @@ impl Refusal {
 pub fn be32(a: u8, b: u8, c: u8, d: u8) -> u32
     ensures { result ≡ u32_of a b c d }
 {
-    (((a as u32) * 256 + (b as u32)) * 256 + (c as u32)) * 256 + (d as u32)
+    u32::from_be_bytes([a, b, c, d])
 }

@@ -1,6 +1,9 @@
 -- A call's own checks, and what it leaves when they are passed or not.
 use mathlib.Core.Bool.{Bool, true, false, not}
 use mathlib.Core.Option.{none, some}
+use Rattle.std.specs.Prelude.{Result, Ok, Err, Some, None}
+use Rattle.std.specs.Prelude as Code
+use Rattle.wire.specs.Answers.{number_of, detail_of}
 use mathlib.Core.List.{List}
 use mathlib.Core.Path.{◌≡◌, refl, sym, ap, ◌∙◌}
 use Prim.Native.Nat.{ℕ, zero, suc, ◌*◌, ◌%◌, ◌≤◌, ◌<◌}
@@ -20,9 +23,9 @@ use Rattle.writer.specs.Answers.{lent_of, forms_by}
 use Rattle.slots.specs.Slots.{Fresh}
 use Rattle.writer.specs.Passes.{most-notes, call_fault, Slots, MeasureSays, TriedBy, Ready}
 use Rattle.wire.specs.declared.Refusal as Wire
-use Rattle.writer.specs.declared.Writer as Code
-use Rattle.writer.specs.declared.measure.Measured.{Measured}
-use Rattle.writer.specs.declared.tries.Outcome.{Outcome}
+use Rattle.writer.specs.declared.Writer as Declared
+use Rattle.writer.specs.declared.Stop.{Stop}
+use Rattle.writer.specs.declared.Stop.TheVariants.{Refused, Crowded}
 
 -- ---- what passed checks say
 
@@ -121,19 +124,19 @@ module _ (w : Writer) (l : Lent) (rs : List Row) (s : sizes_bad l ≡ false) (g 
 
 -- ---- what measuring says, by its answer
 
-module _ (first second output table rows notes heads : List ℕ) (w : Code.Writer) (r : Measured)
+module _ (first second output table rows notes heads : List ℕ) (w : Declared.Writer) (r : Result ℕ Stop)
     (says : MeasureSays first second output table w.names w.written (rows_in first second rows) notes heads r) where
   abbrev fault : Refusal
   fault = rows_refusal (lent_of output table) (meets_bad output w.names table) w.written (pool_at output w.names table) (rows_in first second rows)
 
-  pub refused-by : (x : Wire.Refusal) → r ≡ Measured.Refused x → fault ≡ some (x.number, x.detail)
+  pub refused-by : (x : Wire.Refusal) → r ≡ Err (Refused x) → fault ≡ some (number_of x, detail_of x)
   refused-by x e = rw e at says
 
-  pub crowded-by : r ≡ Measured.Crowded → length notes < most-notes
+  pub crowded-by : r ≡ Err Crowded → length notes < most-notes
   crowded-by e = rw e at says
 
-  module _ (used : ℕ) (e : r ≡ Measured.Used used) where
-    used-says : MeasureSays first second output table w.names w.written (rows_in first second rows) notes heads (Measured.Used used)
+  module _ (used : ℕ) (e : r ≡ Ok used) where
+    used-says : MeasureSays first second output table w.names w.written (rows_in first second rows) notes heads (Ok used)
     used-says = rw e at says
 
     pub used-fit : used ≤ length notes
@@ -168,21 +171,21 @@ slots_kept n n' e s = rw e s
 
 -- ---- tries
 
-module _ (single : Bool) (w : Code.Writer) (first second rows output table output' table' : List ℕ) where
-  abbrev By : ℕ → Outcome → Type 0
+module _ (single : Bool) (w : Declared.Writer) (first second rows output table output' table' : List ℕ) where
+  abbrev By : ℕ → Code.Option (Result Declared.Writer Wire.Refusal) → Type 0
   By = TriedBy single w first second rows output table output' table'
 
   -- room for how many notes counts only in that it is not for all
-  pub tried-with : (size size' : ℕ) (r : Outcome) → size' < most-notes → By size r → By size' r
-  tried-with size size' (Outcome.Left x) h t = t
-  tried-with size size' Outcome.Crowded h t = (t.0, h)
+  pub tried-with : (size size' : ℕ) (r : Code.Option (Result Declared.Writer Wire.Refusal)) → size' < most-notes → By size r → By size' r
+  tried-with size size' (Some x) h t = t
+  tried-with size size' None h t = (t.0, h)
 
   -- Room for as many as lie in an array. That they are so many is told by the array's own facts: `length (replicate n 0)` is not to be computed.
-  pub tried-at : (n size : ℕ) (r : Outcome) → size ≡ n → By size r → By n r
+  pub tried-at : (n size : ℕ) (r : Code.Option (Result Declared.Writer Wire.Refusal)) → size ≡ n → By size r → By n r
   tried-at n size r e t = rw e at t
 
   -- with room for all notes
-  pub never-crowded : (r : Outcome) → r ≡ Outcome.Crowded → By most-notes r → ⊥
+  pub never-crowded : (r : Code.Option (Result Declared.Writer Wire.Refusal)) → r ≡ None → By most-notes r → ⊥
   never-crowded r e t =
-      let u : By most-notes Outcome.Crowded = rw e at t in
+      let u : By most-notes None = rw e at t in
       omega (arith, u.1)

@@ -5,6 +5,7 @@ mod Keeps
 mod Pools
 mod Noting
 mod Bytes
+mod Parts
 mod Measures
 mod Turns
 mod Measuring

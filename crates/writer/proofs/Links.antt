@@ -14,7 +14,8 @@ use Rattle.event.specs.Laws.{same_refl}
 use Rattle.grammar.proofs.Choice.{by_test}
 use Rattle.slots.specs.Slots.{slot_of}
 use Rattle.writer.specs.Notes.{note_name, note_link, count, Chain, Linked, LookSays, Recalled}
-use Rattle.writer.specs.declared.notes.Look.TheVariants as Look
+use Rattle.std.specs.Prelude.{Some, None, is_some}
+use Rattle.std.specs.Prelude as Code
 
 -- ---- a look
 
@@ -27,10 +28,15 @@ unfolding note_name
 noted-again first second w notes n k a b c e = rw (a, b, c, e) (sym (same_refl _))
 
 -- a guess that its note confirms
-pub recalled : (first second w notes : List ℕ) (i : ℕ) → Recalled w notes (Look.At i)
-    → LookSays first second notes (span first second (get_or w 1 0) (get_or w 2 0) (get_or w 3 0)) (Look.At i)
+pub recalled : (first second w notes : List ℕ) (i : ℕ) → Recalled w notes (Some i)
+    → LookSays first second notes (span first second (get_or w 1 0) (get_or w 2 0) (get_or w 3 0)) (Some i)
 unfolding note_name
 recalled first second w notes i r = (r.0, r.1, rw (r.2, r.3, r.4), r.5)
+
+pub found_some : (first second w notes : List ℕ) (o : Code.Option ℕ) → is_some o ≡ true → Recalled w notes o
+    → (i : ℕ) × LookSays first second notes (span first second (get_or w 1 0) (get_or w 2 0) (get_or w 3 0)) (Some i)
+found_some first second w notes (Some i) h r = (i, recalled first second w notes i r)
+found_some first second w notes None h r = absurd (false≢true h)
 
 module _ (first second notes heads n : List ℕ) where
   abbrev slots : ℕ

@@ -23,12 +23,13 @@ use Rattle.byte_copy.specs.Sets.{take-sets}
 use Rattle.writer.specs.Answers.{takes, stops, measured, size_of, placed, barred, placed_by, name_found_of}
 use Rattle.slots.specs.Slots.{slot_of}
 use Rattle.writer.specs.Notes.{note_name, note_index, count, Unnoted, LookSays}
-use Rattle.writer.specs.declared.notes.Look.TheVariants as Look
+use Rattle.std.specs.Prelude.{Result, Ok, Err, Some, None}
+use Rattle.std.specs.Prelude as Code
 use Rattle.wire.specs.declared.Refusal as Wire
-use Rattle.writer.specs.declared.sizes.Size.{Size}
+use Rattle.wire.specs.Answers.{number_of, detail_of}
+use Rattle.writer.specs.declared.Stop.{Stop}
+use Rattle.writer.specs.declared.Stop.TheVariants.{Refused, Crowded}
 use Rattle.writer.specs.declared.measure.Tally.{Tally}
-use Rattle.writer.specs.declared.measure.RowSize.{RowSize}
-use Rattle.writer.specs.declared.measure.NameFound.{NameFound}
 use Rattle.writer.specs.declared.measure.NameSize.{NameSize}
 use Rattle.writer.specs.Passes.{name_refusal, capped, most-notes, bad, found, Known, Kept, NameTakes, NameSays, NameMeasured, RowNamed, RowNameSays, RowNameMeasured, RowTakes, RowMeasured}
 use Rattle.writer.proofs.Pools.{keep-there, keep-new, keep-full, find-below}
@@ -339,22 +340,22 @@ module _ (first second output table : List ℕ) (kept : ℕ) (w n notes heads : 
 module _ (first second output table : List ℕ) (kept : ℕ) (w n notes heads : List ℕ) (used slot names : ℕ)
     (e : n ≡ span first second (get_or w 1 0) (get_or w 2 0) (get_or w 3 0)) (in_use : used ≤ length notes)
     (its : (slot ≡ slot_of (length heads) n) × (slot < length heads)) (k : Kept first second output table kept names (take used notes) heads)
-    (u : Unnoted first second (take used notes) n) (r : NameFound)
+    (u : Unnoted first second (take used notes) n) (r : Result (Code.Option ℕ) Wire.Refusal)
     (said : name_found_of r ≡ placed_by (name_refusal (bad first second output table kept) n) (find (found first second output table kept) n)) where
-  abbrev After : List ℕ → List ℕ → NameSize → Type 0
+  abbrev After : List ℕ → List ℕ → Result NameSize Stop → Type 0
   After notes' heads' s = NameMeasured first second output table kept names n used notes heads notes' heads' s
 
   small : (pool : Pool) → length pool ≡ names → length pool ≤ most
   small pool c = omega (arith, k.1, k.2)
 
   abbrev Asks : Type 0
-  Asks = (8 ≤ length w) × (((used + 5 ≤ length notes) × (used + 5 ≤ most-notes)) × (slot < length heads))
+  Asks = ((used + 5 ≤ length notes) × (used + 5 ≤ most-notes)) × (slot < length heads)
 
   -- a note more ends below the end of a word
   pub used-small : used + 5 < 18446744073709551616
   used-small = omega (arith, used-few first second output table kept k.0 notes heads used in_use k.2 k.3)
 
-  module _ (i : ℕ) (is : r ≡ NameFound.At i) where
+  module _ (i : ℕ) (is : r ≡ Ok (Some i)) where
     there : Answer first second output table kept w n notes heads used slot e in_use its.0 its.1 u k.0 names k.1 k.2 k.3 (some i)
     there = sym (ap name_found_of is) ∙ said
 
@@ -364,18 +365,18 @@ module _ (first second output table : List ℕ) (kept : ℕ) (w n notes heads : 
     there-room : used + 5 ≤ most-notes
     there-room = room-kept first second output table kept w n notes heads used slot e in_use its.0 its.1 u k.0 names k.1 k.2 k.3 i there
 
-    pub there-crowded : length notes - used < 5 → After notes heads NameSize.Crowded
+    pub there-crowded : length notes - used < 5 → After notes heads (Err Crowded)
     there-crowded h pool c t = omega (arith, h, there-room)
 
-    pub there-asks : 8 ≤ length w → 5 ≤ length notes - used → Asks
-    there-asks b h = (b, ((omega arith, there-room), its.1))
+    pub there-asks : 5 ≤ length notes - used → Asks
+    there-asks h = ((omega arith, there-room), its.1)
 
     pub there-takes : (notes' heads' : List ℕ) → notes' ≡ sets notes used (get_or w 1 0 ∷ get_or w 2 0 ∷ get_or w 3 0 ∷ i ∷ get_or heads slot 0 ∷ [])
-        → heads' ≡ set heads slot (used / 5 + 1) → 5 ≤ length notes - used → After notes' heads' (NameSize.Takes 2 names (used + 5))
+        → heads' ≡ set heads slot (used / 5 + 1) → 5 ≤ length notes - used → After notes' heads' (Ok (record { size = 2; names = names; used = used + 5 }))
     there-takes notes' heads' stored headed h pool c t =
         says-kept first second output table kept w n notes heads used slot e in_use its.0 its.1 u pool names c (small pool c) t i notes' heads' stored headed (omega arith) there
 
-  module _ (is : r ≡ NameFound.Nowhere) where
+  module _ (is : r ≡ Ok None) where
     nowhere : Answer first second output table kept w n notes heads used slot e in_use its.0 its.1 u k.0 names k.1 k.2 k.3 none
     nowhere = sym (ap name_found_of is) ∙ said
 
@@ -383,35 +384,35 @@ module _ (first second output table : List ℕ) (kept : ℕ) (w n notes heads : 
       joins-room : used + 5 ≤ most-notes
       joins-room = room-new first second output table kept w n notes heads used slot e in_use its.0 its.1 u k.0 names k.1 k.2 k.3 nowhere m
 
-      pub joins-crowded : length notes - used < 5 → After notes heads NameSize.Crowded
+      pub joins-crowded : length notes - used < 5 → After notes heads (Err Crowded)
       joins-crowded h pool c t = omega (arith, h, joins-room)
 
-      pub joins-asks : 8 ≤ length w → 5 ≤ length notes - used → Asks
-      joins-asks b h = (b, ((omega arith, joins-room), its.1))
+      pub joins-asks : 5 ≤ length notes - used → Asks
+      joins-asks h = ((omega arith, joins-room), its.1)
 
       pub joins-takes : (notes' heads' : List ℕ) → notes' ≡ sets notes used (get_or w 1 0 ∷ get_or w 2 0 ∷ get_or w 3 0 ∷ names ∷ get_or heads slot 0 ∷ [])
-          → heads' ≡ set heads slot (used / 5 + 1) → 5 ≤ length notes - used → After notes' heads' (NameSize.Takes (4 + length n) (names + 1) (used + 5))
+          → heads' ≡ set heads slot (used / 5 + 1) → 5 ≤ length notes - used → After notes' heads' (Ok (record { size = 4 + length n; names = names + 1; used = used + 5 }))
       joins-takes notes' heads' stored headed h pool c t =
           says-new first second output table kept w n notes heads used slot e in_use its.0 its.1 u pool names c (small pool c) t names notes' heads' stored headed
           (omega arith) nowhere m refl
 
-    pub full-takes : interned_new ≤ names → After notes heads (NameSize.Takes (4 + length n) names used)
+    pub full-takes : interned_new ≤ names → After notes heads (Ok (record { size = 4 + length n; names = names; used = used }))
     full-takes m pool c t = says-full first second output table kept w n notes heads used slot e in_use its.0 its.1 u pool names c (small pool c) t nowhere m
 
-  pub stays-refused : (x : Wire.Refusal) → r ≡ NameFound.Refused x → After notes heads (NameSize.Refused x)
-  stays-refused x is pool c t = barred-is _ x.number x.detail _ (sym (ap name_found_of is) ∙ said)
+  pub stays-refused : (x : Wire.Refusal) → r ≡ Err x → After notes heads (Err (Refused x))
+  stays-refused x is pool c t = barred-is _ (number_of x) (detail_of x) _ (sym (ap name_found_of is) ∙ said)
 
 -- ---- a row's name
 
 module _ (first second output table : List ℕ) (kept : ℕ) (pool : Pool) (r : Row) (n notes : List ℕ) (used : ℕ) (h : has_name r.kind ≡ true) (e : r.name ≡ n) where
-  pub says_row : (notes' heads' : List ℕ) (s : NameSize) → NameSays first second output table kept pool n used notes notes' heads' s
+  pub says_row : (notes' heads' : List ℕ) (s : Result NameSize Stop) → NameSays first second output table kept pool n used notes notes' heads' s
       → RowNameSays first second output table kept pool r used notes notes' heads' s
-  says_row notes' heads' (NameSize.Takes size names' used') t = (t.0, named-row first second output table kept pool r n size names' _ _ heads' h e t.1)
-  says_row notes' heads' (NameSize.Refused x) t = rw (h, e) t
-  says_row notes' heads' NameSize.Crowded t = t
+  says_row notes' heads' (Ok s) t = (t.0, named-row first second output table kept pool r n s.size s.names _ _ heads' h e t.1)
+  says_row notes' heads' (Err (Refused x)) t = rw (h, e) t
+  says_row notes' heads' (Err Crowded) t = t
 
   pub says-noted : (heads : List ℕ) (i names : ℕ) → length pool ≡ names → used ≤ length notes → Known first second output table kept pool (take used notes) heads
-      → LookSays first second (take used notes) n (Look.At i)
+      → LookSays first second (take used notes) n (Some i)
       → (used ≤ length notes) × RowNamed first second output table kept pool r 2 names (take used notes) (take used notes) heads
   says-noted heads i names c b t l = (
     b,
@@ -468,44 +469,45 @@ module _ (first second w : List ℕ) where
 
 -- ---- a row, by what its name takes
 
-module _ (first second output table : List ℕ) (kept : ℕ) (w : List ℕ) (t : Tally) (notes heads notes' heads' : List ℕ) (s : NameSize)
+module _ (first second output table : List ℕ) (kept : ℕ) (w : List ℕ) (t : Tally) (notes heads notes' heads' : List ℕ) (s : Result NameSize Stop)
     (says : RowNameMeasured first second output table kept t.names (row_at first second w) t.used notes heads notes' heads' s) where
   abbrev row : Row
   row = row_at first second w
 
-  abbrev Done : RowSize → Type 0
+  abbrev Done : Result Tally Stop → Type 0
   Done r = RowMeasured first second output table kept row t notes heads notes' heads' r
 
-  pub name-refused : (x : Wire.Refusal) → s ≡ NameSize.Refused x → Done (RowSize.Refused x)
-  name-refused x is pool c k = name-stops first second output table kept pool row x.number x.detail (rw is at (says pool c k))
+  name-refused : (x : Wire.Refusal) → s ≡ Err (Refused x) → Done (Err (Refused x))
+  name-refused x is pool c k = name-stops first second output table kept pool row (number_of x) (detail_of x) (rw is at (says pool c k))
 
-  pub name-crowded : s ≡ NameSize.Crowded → Done RowSize.Crowded
-  name-crowded is pool c k = rw is at (says pool c k)
+  pub name-stopped : (x : Stop) → s ≡ Err x → Done (Err x)
+  name-stopped (Refused x) is pool c k = name-refused x is pool c k
+  name-stopped Crowded is pool c k = rw is at (says pool c k)
 
-  module _ (size names used : ℕ) (is : s ≡ NameSize.Takes size names used) where
+  module _ (u : NameSize) (is : s ≡ Ok u) where
     named : (pool : Pool) → length pool ≡ t.names → Known first second output table kept pool (take t.used notes) heads
-        → RowNameSays first second output table kept pool row t.used notes notes' heads' (NameSize.Takes size names used)
+        → RowNameSays first second output table kept pool row t.used notes notes' heads' (Ok u)
     named pool c k = rw is at (says pool c k)
 
     module _ (k : Kept first second output table kept t.names (take t.used notes) heads) (near : t.at ≤ max_store + 1) (b : get_or w 3 0 < 4294967296) where
-      name-short-enough : size ≤ 4 + get_or w 3 0
-      name-short-enough = size_small first second w output table kept k.0 size names (take t.used notes) (take used notes') heads' (named k.0 k.1 k.3).1
+      name-short-enough : u.size ≤ 4 + get_or w 3 0
+      name-short-enough = size_small first second w output table kept k.0 u.size u.names (take t.used notes) (take u.used notes') heads' (named k.0 k.1 k.3).1
 
-      pub name-fits : t.at + 1 + size < 18446744073709551616
+      pub name-fits : t.at + 1 + u.size < 18446744073709551616
       name-fits = omega (arith, name-short-enough)
 
-    module _ (v : Size) (value : size_of v ≡ measured (value_fault (shape row.type) row.value) (length (value_bytes row.value))) where
-      pub value-refused : (x : Wire.Refusal) → v ≡ Size.Refused x → Done (RowSize.Refused x)
+    module _ (v : Result ℕ Wire.Refusal) (value : size_of v ≡ measured (value_fault (shape row.type) row.value) (length (value_bytes row.value))) where
+      pub value-refused : (x : Wire.Refusal) → v ≡ Err x → Done (Err (Refused x))
       value-refused x e pool c k =
-          value-stops first second output table kept pool row size names (take t.used notes) (take used notes') heads' (named pool c k).1 x.number x.detail
+          value-stops first second output table kept pool row u.size u.names (take t.used notes) (take u.used notes') heads' (named pool c k).1 (number_of x) (detail_of x)
           (sym (ap size_of e) ∙ value)
 
-      module _ (more : ℕ) (e : v ≡ Size.Takes more) where
+      module _ (more : ℕ) (e : v ≡ Ok more) where
         pub value-fits : Kept first second output table kept t.names (take t.used notes) heads → t.at ≤ max_store + 1 → get_or w 3 0 < 4294967296
-            → get_or w 7 0 < 4294967296 → t.at + 1 + size + more < 18446744073709551616
+            → get_or w 7 0 < 4294967296 → t.at + 1 + u.size + more < 18446744073709551616
         value-fits k near b d = omega (arith, name-short-enough k near b, more-small first second w more (sym (ap size_of e) ∙ value))
 
-        pub row-measured : (at : ℕ) → at ≡ capped (length output) (t.at + 1 + size + more) → Done (RowSize.Takes (record { at = at; names = names; used = used }))
+        pub row-measured : (at : ℕ) → at ≡ capped (length output) (t.at + 1 + u.size + more) → Done (Ok (record { at = at; names = u.names; used = u.used }))
         row-measured at a pool c k =
             let n = named pool c k in
-            (n.0, row-takes first second output table kept pool row size names (take t.used notes) (take used notes') heads' n.1 t.at at more (sym (ap size_of e) ∙ value) a)
+            (n.0, row-takes first second output table kept pool row u.size u.names (take t.used notes) (take u.used notes') heads' n.1 t.at at more (sym (ap size_of e) ∙ value) a)

@@ -1,6 +1,7 @@
 -- The first pass: what holds before each row.
 use mathlib.Core.Bool.{Bool, true, false}
 use mathlib.Core.Option.{Option, none, some}
+use Rattle.std.specs.Prelude.{Result, Ok, Err}
 use mathlib.Core.List.{List, [], ◌∷◌, ◌++◌, append-nil, append_assoc}
 use mathlib.Core.Path.{◌≡◌, sym, ap, ◌∙◌}
 use Prim.Native.Nat.{ℕ, ◌+◌, ◌-◌, ◌%◌, ◌≤◌, ◌<◌}
@@ -10,6 +11,7 @@ use lib.ListN.{length, take, drop, length-drop}
 use Rattle.wire.specs.Limits.{max_store}
 use Rattle.wire.specs.Token.{interned_new}
 use Rattle.event.specs.Row.{Row, has_name, row_at}
+use Rattle.event.specs.Laws.{row-of-eight}
 use Rattle.grammar.specs.Grammar.{most}
 use Rattle.grammar.specs.Document.{Pool}
 use Rattle.writer_spec.specs.Encode.{row_bytes, keep_row, keep_rows}
@@ -22,13 +24,13 @@ use Rattle.slots.specs.Slots.{Fresh}
 use Rattle.writer.specs.Notes.{Unnoted}
 use Rattle.writer.specs.Passes.{room_of, ends_at, most-notes, Settled, AllSettled, bad, found, Known, Kept, RowTakes, RowSays, RowMeasured, MeasureSays}
 use Rattle.wire.specs.declared.Refusal as Wire
-use Rattle.writer.specs.declared.sizes.Fault.{Fault}
-use Rattle.writer.specs.declared.measure.RowSize.{RowSize}
-use Rattle.writer.specs.declared.measure.Measured.TheVariants as Measured
+use Rattle.wire.specs.Answers.{number_of, detail_of}
+use Rattle.writer.specs.declared.Stop.{Stop}
+use Rattle.writer.specs.declared.Stop.TheVariants.{Refused, Crowded}
 use Rattle.writer.specs.declared.measure.Tally.{Tally}
 use Rattle.writer.proofs.Pools.{row-full}
 use Rattle.writer.proofs.Noting.{noted-none}
-use Rattle.writer.proofs.Turns.{to_end, rest, rest_more, rest-ends, rest_end, capped_small, refusal-capped, room-is, stops-row, stops-room, goes_in, goes-past}
+use Rattle.writer.proofs.Turns.{rest, rest_more, rest-ends, rest_end, capped_small, refusal-capped, room-is, stops-row, stops-room, goes_in, goes-past}
 
 -- ---- names that are settled stay so
 
@@ -98,7 +100,7 @@ module _ (first second output table rows : List ℕ) (kept written : ℕ) where
     pool = keep_rows pool₀ m.done
 
     -- what a row's measuring asks for
-    kept_here : kept ≤ interned_new → Kept first second output table kept t.names (take t.used notes) heads
+    pub kept_here : kept ≤ interned_new → Kept first second output table kept t.names (take t.used notes) heads
     unfolding most
     kept_here h = (pool, m.names-are, rows-bounded m.done pool₀ (omega (arith, pool-count output kept table)), m.knows)
 
@@ -167,48 +169,38 @@ module _ (first second output table rows : List ℕ) (kept written : ℕ) where
             → Measuring (row + 8) u notes' heads'
         goes-on-past small e f = next small (goes-past l names-bad t.at pool this after k.passes (ends-here ∙ e) (sym room-here ∙ f))
 
-      -- the loop's own bounds
-      pub turn-ends : row + 8 ≤ length rows
-      turn-ends = omega (arith, m.aligned)
-
-      pub turn-falls : length rows - (row + 8) < length rows - row
-      turn-falls = omega arith
-
-      -- the words that a turn is given
-      abbrev words : List ℕ
-      words = take (length rows - row) (drop row rows)
-
-      pub row-asks : kept ≤ interned_new → (8 ≤ length words) × Kept first second output table kept t.names (take t.used notes) heads
-      row-asks b = rw (to_end rows row) (omega (arith, length-drop row rows, m.aligned), kept_here b)
-
-      -- and what the row's measuring says
-      module _ (r : RowSize) (notes' heads' : List ℕ) (says : RowMeasured first second output table kept (row_at first second words) t notes heads notes' heads' r) where
+      -- what the row's measuring says, by the eight words that it was given
+      module _ (words : List ℕ) (front : words ≡ take 8 (drop row rows)) (r : Result Tally Stop) (notes' heads' : List ℕ)
+          (says : RowMeasured first second output table kept (row_at first second words) t notes heads notes' heads' r) where
         said : RowSays first second output table kept pool this t notes notes' heads' r
-        said = (let at_row : RowMeasured first second output table kept this t notes heads notes' heads' r = rw (to_end rows row) at says in at_row pool m.names-are m.knows)
+        said =
+            let at_row : RowMeasured first second output table kept this t notes heads notes' heads' r = rw (front, row-of-eight first second (drop row rows)) at says in
+            at_row pool m.names-are m.knows
 
-        pub row-refused : (x : Wire.Refusal) → r ≡ RowSize.Refused x → Whole ≡ some (x.number, x.detail)
-        row-refused x e = row-stops x.number x.detail (rw e at said)
+        row-refused : (x : Wire.Refusal) → r ≡ Err (Refused x) → Whole ≡ some (number_of x, detail_of x)
+        row-refused x e = row-stops (number_of x) (detail_of x) (rw e at said)
 
-        pub row-crowded : r ≡ RowSize.Crowded → length notes' < most-notes
-        row-crowded e = rw e at said
+        pub row-stopped : (x : Stop) → r ≡ Err x → MeasureSays first second output table kept written all notes' heads' (Err x)
+        row-stopped (Refused x) e = row-refused x e
+        row-stopped Crowded e = rw e at said
 
         -- the row takes so much, and an event ends after it or not
-        module _ (u : Tally) (e : r ≡ RowSize.Takes u) (over : Bool) (is : over ≡ ends_at rows (row + 8)) where
-          taken : RowSays first second output table kept pool this t notes notes' heads' (RowSize.Takes u)
+        module _ (u : Tally) (e : r ≡ Ok u) (over : Bool) (is : over ≡ ends_at rows (row + 8)) where
+          taken : RowSays first second output table kept pool this t notes notes' heads' (Ok u)
           taken = rw e at said
 
           pub row_inside : length output ≤ max_store → over ≡ false → Measuring (row + 8) u notes' heads'
           row_inside small b = goes_on u notes' heads' taken.0 taken.1 small (sym is ∙ b)
 
-          module _ (b : over ≡ true) (f : Fault) (room : fault_of f ≡ room_of (length output) (length table) u.at u.names) where
-            pub room-refused : (x : Wire.Refusal) → f ≡ Fault.Refused x → Whole ≡ some (x.number, x.detail)
-            room-refused x d = room-stops u notes' heads' taken.0 taken.1 x.number x.detail (sym is ∙ b) (sym room ∙ ap fault_of d)
+          module _ (b : over ≡ true) (f : Result Unit Wire.Refusal) (room : fault_of f ≡ room_of (length output) (length table) u.at u.names) where
+            pub room-refused : (x : Wire.Refusal) → f ≡ Err x → Whole ≡ some (number_of x, detail_of x)
+            room-refused x d = room-stops u notes' heads' taken.0 taken.1 (number_of x) (detail_of x) (sym is ∙ b) (sym room ∙ ap fault_of d)
 
-            pub row_last : length output ≤ max_store → f ≡ Fault.Nothing → Measuring (row + 8) u notes' heads'
+            pub row_last : length output ≤ max_store → f ≡ Ok tt → Measuring (row + 8) u notes' heads'
             row_last small d = goes-on-past u notes' heads' taken.0 taken.1 small (sym is ∙ b) (sym room ∙ ap fault_of d)
 
     -- all rows are measured
-    pub ended : length rows ≤ row → MeasureSays first second output table kept written all notes heads (Measured.Used t.used)
+    pub ended : length rows ≤ row → MeasureSays first second output table kept written all notes heads (Ok t.used)
     unfolding rows_refusal
     ended h =
         let none_left : rest first second rows row ≡ [] = rest_end first second rows row h in

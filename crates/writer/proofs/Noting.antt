@@ -17,7 +17,7 @@ use Rattle.writer_spec.specs.Faults.{string_fault}
 use Rattle.slots.specs.Slots.{slot_of, Fresh}
 use Rattle.writer.specs.Notes.{note_name, note_index, count, Unnoted, LookSays, Noted}
 use Rattle.writer.specs.Passes.{Settled}
-use Rattle.writer.specs.declared.notes.Look.TheVariants as Look
+use Rattle.std.specs.Prelude.{Some, None}
 use Rattle.writer.proofs.Pools.{find-there, find-new, find-other, find-below, find-one, find-front, find-later, find-never, pigeons}
 use Rattle.writer.proofs.Links.{more, count-more, word-old, word-new, name-old, name_new, linked-more}
 
@@ -144,12 +144,12 @@ module _ (first second w : List ℕ) (names : ℕ) (notes heads : List ℕ) wher
     unfolding row_at
     told o pool e = rw h (sym e)
 
-    pub told_at : (i : ℕ) → LookSays first second notes name (Look.At i) → i < names → Told (some i)
+    pub told_at : (i : ℕ) → LookSays first second notes name (Some i) → i < names → Told (some i)
     told_at i l b bad pool₀ pool after e t s =
         told (some i) pool
         (find-front pool after name i (sym (ap (find (pool ++ after)) l.2) ∙ t.places l.0 l.1 ∙ ap some l.3) (omega arith))
 
-    pub told-late : (i : ℕ) → LookSays first second notes name (Look.At i) → names ≤ i → Told none
+    pub told-late : (i : ℕ) → LookSays first second notes name (Some i) → names ≤ i → Told none
     told-late i l b bad pool₀ pool after e t s =
         told none pool
         (find-later pool after name i (sym (ap (find (pool ++ after)) l.2) ∙ t.places l.0 l.1 ∙ ap some l.3) (omega arith))

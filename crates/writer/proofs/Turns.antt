@@ -6,7 +6,7 @@ use mathlib.Core.Path.{◌≡◌, refl, sym, ap, ◌∙◌}
 use Prim.Native.Nat.{ℕ, suc, ◌+◌, ◌-◌, ◌/◌, ◌%◌, ◌≤◌, ◌<◌}
 use native.Mathlib.Nat.{add-zero}
 use native.Mathlib.Omega.{arith}
-use borrow.Author.Tests.{lt-ltb, ltb-true, ltb-false}
+use borrow.Author.Tests.{lt-ltb, le-ltb, ltb-true, ltb-false}
 use lib.Dec.{ltb}
 use lib.ListN.{length, get_or, take, drop, length-drop}
 use lib.Seq.{take_all, drop-drop, get_or-drop}
@@ -21,9 +21,28 @@ use Rattle.writer.specs.Passes.{room_of, capped, ends_at}
 
 -- ---- the rows from a place on
 
--- a part up to the end, `&rows[at..]`
-pub to_end : (w : List ℕ) (at : ℕ) → take (length w - at) (drop at w) ≡ drop at w
-to_end w at = take_all (length w - at) (drop at w) (omega (arith, length-drop at w))
+-- what is left of the rows is that from a place on, of which something holds
+pub record From (rows left : List ℕ) (P : ℕ → Type 0) : Type 0 where
+  pub at : ℕ
+  pub is : left ≡ drop at rows
+  pub here : P at
+
+-- and from the row after that on
+pub next_left : (rows left left' : List ℕ) (at : ℕ) → left ≡ drop at rows → left' ≡ drop 8 left → left' ≡ drop (at + 8) rows
+next_left rows left left' at e f = f ∙ ap (drop 8) e ∙ drop-drop 8 at rows
+
+pub ends_left : (rows left : List ℕ) (at : ℕ) → left ≡ drop at rows → ends_at left 0 ≡ ends_at rows at
+unfolding ends_at
+ends_left rows left at e =
+    rw (e, get_or-drop at rows 0 0, add-zero at)
+    (by_test (ltb at (length rows)) (λ t. rw (t, lt-ltb 0 (length (drop at rows)) (omega (arith, length-drop at rows, ltb-true at (length rows) t))) refl)
+    (λ t. rw (t, le-ltb 0 (length (drop at rows)) (omega (arith, length-drop at rows, ltb-false at (length rows) t))) refl))
+
+pub more_left : (rows left : List ℕ) (at : ℕ) → left ≡ drop at rows → (n : ℕ) → n + 8 ≡ length left → at < length rows
+more_left rows left at e n h = omega (arith, ap length e, length-drop at rows)
+
+pub none_left : (rows left : List ℕ) (at : ℕ) → left ≡ drop at rows → at % 8 ≡ 0 → length rows % 8 ≡ 0 → length left < 8 → length rows ≤ at
+none_left rows left at e a w h = omega (arith, ap length e, length-drop at rows)
 
 module _ (first second rows : List ℕ) (at : ℕ) where
   abbrev pub rest : List Row

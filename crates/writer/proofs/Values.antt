@@ -1,10 +1,14 @@
 -- A row's value by its type's shape: what is wrong with it, and its bytes.
-use mathlib.Core.Bool.{true, false}
+use mathlib.Core.Bool.{Bool, true, false, cond}
+use mathlib.Core.Option.{none, some}
 use mathlib.Core.List.{List, [], ◌++◌}
-use mathlib.Core.Path.{◌≡◌, refl, ap, ◌∙◌}
+use mathlib.Core.Logic.{◌⊎◌, inl, inr}
+use mathlib.Core.Path.{◌≡◌, refl, sym, ap, ◌∙◌}
 use Prim.Native.Nat.{ℕ, ◌+◌, ◌≤◌, ◌<◌}
 use native.Mathlib.Omega.{arith}
 use borrow.Author.Tests.{lt-ltb, le-ltb, lt-leb, le-leb}
+use lib.Dec.{ltb}
+use Rattle.grammar.proofs.Choice.{by_test}
 use lib.ListN.{length, get_or, take, drop, length-drop}
 use lib.Seq.{length-take-le}
 use Rattle.wire.specs.Header.{be16, be32}
@@ -40,6 +44,17 @@ module _ (s : List ℕ) (n : ℕ) (e : length s ≡ n) where
   pub string-broken : n ≤ longest → well_formed s ≡ false → stops invalid_utf8 0 ≡ measured (string_fault s) (2 + length s)
   unfolding string_fault
   string-broken h t = rw (e, le-ltb longest n h, t)
+
+-- a string is as long as a blob may be, and then well-formed
+pub string-too-long : (s : List ℕ) (x : ℕ × ℕ) → blob_fault s ≡ some x → string_fault s ≡ some x
+unfolding blob_fault string_fault
+string-too-long s x e =
+    by_test (ltb longest (length s)) (λ t. rw t (rw t at e)) (λ t. absurd (let z : ◌≡◌ {A = ℕ} 0 1 = cc (rw t at e) in omega arith))
+
+pub string-by : (s : List ℕ) (b : Bool) → blob_fault s ≡ none → well_formed s ≡ b → string_fault s ≡ cond b none (some (invalid_utf8, 0))
+unfolding blob_fault string_fault
+string-by s b e f =
+    by_test (ltb longest (length s)) (λ t. absurd (let z : ◌≡◌ {A = ℕ} 0 1 = cc (rw t at e) in omega arith)) (λ t. rw (t, f))
 
 -- a part that a store has, and one that it has not
 module _ (store : List ℕ) (start len : ℕ) where
@@ -140,3 +155,19 @@ module _ (first second w : List ℕ) where
   pub bytes_pair : shape (get_or w 4 0) ≡ Shape.Pair → value_bytes row.value ≡ be32 (get_or w 6 0) ++ be32 (get_or w 7 0)
   unfolding value_at value_bytes
   bytes_pair e = bytes-by Shape.Pair (Row.pair (get_or w 6 0) (get_or w 7 0)) e refl
+
+  -- ---- by the shapes that have no bytes, and those that have any number
+
+  pub size-none : (h : Shape) → h ≡ shape (get_or w 4 0) → (h ≡ Shape.Nothing) ⊎ ((h ≡ Shape.Interned) ⊎ (h ≡ Shape.Unknown)) → takes 0 ≡ Sized
+  size-none h s (inl e) = size-nothing (sym s ∙ e)
+  size-none h s (inr (inl e)) = size-interned (sym s ∙ e)
+  size-none h s (inr (inr e)) = size-unknown (sym s ∙ e)
+
+  pub bytes-none : (h : Shape) → h ≡ shape (get_or w 4 0) → (h ≡ Shape.Nothing) ⊎ ((h ≡ Shape.Interned) ⊎ (h ≡ Shape.Unknown)) → value_bytes row.value ≡ []
+  bytes-none h s (inl e) = bytes-nothing (sym s ∙ e)
+  bytes-none h s (inr (inl e)) = bytes-interned (sym s ∙ e)
+  bytes-none h s (inr (inr e)) = bytes-unknown (sym s ∙ e)
+
+  pub bytes-long : (h : Shape) → h ≡ shape (get_or w 4 0) → (h ≡ Shape.String) ⊎ (h ≡ Shape.Blob) → value_bytes row.value ≡ sized bytes
+  bytes-long h s (inl e) = bytes-string (sym s ∙ e)
+  bytes-long h s (inr e) = bytes-blob (sym s ∙ e)

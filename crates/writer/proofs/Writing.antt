@@ -9,12 +9,13 @@ use native.Mathlib.Omega.{arith}
 use borrow.Author.Tests.{lt-ltb, le-ltb, ltb-true, ltb-false, leb-true, eqb-true}
 use lib.Dec.{ltb, leb, eqb}
 use lib.ListN.{length, get_or, take, drop, length-append, length-drop, get_or-eq_default}
+use Rattle.std.proofs.lemmas.List.{get_or-take}
 use lib.Seq.{sets, length-sets}
 use Rattle.wire.specs.Limits.{max_store}
 use Rattle.event.specs.Span.{span_in}
 use Rattle.event.specs.Row.{Row, shape, shapes, has_name, row_at}
 use Rattle.event.specs.Words.{value_forms, attribute_forms, row_forms, row_forms_in, zeros, opens, rows_form}
-use Rattle.event.specs.Laws.{both}
+use Rattle.event.specs.Laws.{both, row-of-eight}
 use Rattle.event.specs.declared.Shape.{Shape}
 use Rattle.grammar.specs.Grammar.{most}
 use Rattle.grammar.specs.Document.{Pool}
@@ -27,12 +28,16 @@ use Rattle.writer_spec.proofs.Held.{pairs-count}
 use Rattle.writer.specs.Answers.{lent_of, left_of, known_of}
 use Rattle.writer.specs.Notes.{Linked}
 use Rattle.writer.specs.Passes.{Settled, AllSettled, found, Ready, KnownSays, named_by, row_by, token_in, joins_by, pairs_by}
-use Rattle.writer.specs.declared.Written.TheVariants as Written
-use Rattle.writer.specs.declared.put.Known as Code
+use Rattle.std.specs.Prelude.{Ok}
+use Rattle.std.specs.Prelude as Code
 use Rattle.writer.proofs.Pools.{keep-there, keep-new, keep-full, rows_grow}
-use Rattle.writer.proofs.Turns.{to_end, rest, rest_more, rest_end, form-more}
+use Rattle.writer.proofs.Turns.{rest, rest_more, rest_end, form-more}
 
 -- ---- tokens are bytes
+
+token-of-eight : (w : List ℕ) → token_in (take 8 w) ≡ token_in w
+unfolding token_in
+token-of-eight w = rw (get_or-take 8 w 0 0 (omega arith), get_or-take 8 w 4 0 (omega arith))
 
 shape-unknown : (t : ℕ) → 16 ≤ t → shape t ≡ Shape.Unknown
 unfolding shape shapes
@@ -179,16 +184,6 @@ module _ (first second output₀ table₀ rows : List ℕ) (kept written : ℕ) 
       this-first : rest first second rows row ≡ this ∷ after
       this-first = rest_more first second rows w row m.aligned h
 
-      whole_row : 8 ≤ length (drop row rows)
-      whole_row = omega (arith, length-drop row rows, m.aligned)
-
-      -- the bounds of a place, for the loop
-      pub turn-ends : row + 8 ≤ length rows
-      turn-ends = omega (arith, m.aligned)
-
-      pub turn-asks : (8 ≤ length (take (length rows - row) (drop row rows))) × Linked first second notes heads
-      turn-asks = rw (to_end rows row) (whole_row, ready.knows.linked)
-
       token-fits : token_in (drop row rows) < 256
       token-fits = token-small first second m.inside (drop row rows) (form-more first second rows w row m.aligned m.inside h m.formed).0
 
@@ -259,34 +254,33 @@ module _ (first second output₀ table₀ rows : List ℕ) (kept written : ℕ) 
               table-length = ap length t ∙ length-sets table (2 * names) (pairs_by o this names at) ∙ m.table-length;
             }
 
-      -- the words that a turn is given, and what it is told of the name
-      abbrev words : List ℕ
-      words = take (length rows - row) (drop row rows)
-
-      module _ (known : Code.Known) (says : KnownSays first second notes heads names (row_at first second words) known) where
+      -- the eight words that a turn is given, and what it is told of the name
+      module _ (words : List ℕ) (front : words ≡ take 8 (drop row rows)) (known : Code.Option ℕ) (says : KnownSays first second notes heads names (row_at first second words) known) where
         abbrev stands : Option ℕ
         stands = known_of known
 
         where-it-stands : stands ≡ cond (has_name this.kind) (find m.pool this.name) none
         where-it-stands =
-            let at_row : KnownSays first second notes heads names this known = rw (to_end rows row) at says in
+            let at_row : KnownSays first second notes heads names this known = rw (front, row-of-eight first second (drop row rows)) at says in
             at_row (meets_bad output₀ kept table₀) pool₀ m.pool m.more m.names-are (rw m.pool-grows at ready.knows) settled_here
 
-        pub row-asks : (8 ≤ length words) × ((token_in words < 256) × (at + length (row_by stands (row_at first second words)) ≤ length output))
-        row-asks = rw (to_end rows row) (whole_row, (token-fits, row_fits stands where-it-stands))
+        row-is : row_at first second words ≡ this
+        row-is = rw front (row-of-eight first second (drop row rows))
+
+        pub row-asks : (token_in words < 256) × (at + length (row_by stands (row_at first second words)) ≤ length output)
+        row-asks = (rw (front, token-of-eight (drop row rows)) token-fits, rw row-is (row_fits stands where-it-stands))
 
         pub keep-asks : length output₀ ≤ max_store
-            → (8 ≤ length words) × ((at ≤ max_store) × (2 * names + length (pairs_by stands (row_at first second words) names at) ≤ length table))
-        keep-asks s = rw (to_end rows row) (whole_row, (omega (arith, at-fits stands where-it-stands), pair_fits stands where-it-stands))
+            → (at ≤ max_store) × (2 * names + length (pairs_by stands (row_at first second words) names at) ≤ length table)
+        keep-asks s = (omega (arith, at-fits stands where-it-stands), rw row-is (pair_fits stands where-it-stands))
 
         pub turns : (output' table' : List ℕ) (at' names' : ℕ) → output' ≡ sets output at (row_by stands (row_at first second words))
             → at' ≡ at + length (row_by stands (row_at first second words)) → table' ≡ sets table (2 * names) (pairs_by stands (row_at first second words) names at)
             → names' ≡ cond (joins_by stands (row_at first second words) names) (names + 1) names → Writing (row + 8) at' names' output' table'
         turns output' table' at' names' b p t n =
-            let e = to_end rows row in
-            goes_on stands where-it-stands output' table' at' names' (rw e at b) (rw e at p) (rw e at t) (rw e at n)
+            goes_on stands where-it-stands output' table' at' names' (rw row-is at b) (rw row-is at p) (rw row-is at t) (rw row-is at n)
 
-    pub ended : length rows ≤ row → left_of (Written.Wrote (record { written = at; names = names })) output table
+    pub ended : length rows ≤ row → left_of (Ok (record { written = at; names = names })) output table
         ≡ append (record { written = written; names = kept }) (lent_of output₀ table₀) all
     unfolding append rows_bytes rows_pairs keep_rows
     ended h =

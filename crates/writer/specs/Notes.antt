@@ -1,12 +1,12 @@
 -- The notes that a call keeps of the names it has met: five words each, linked by slots.
-use Rattle.std.specs.Prelude.{Bool, false, List, ◌≡◌, ℕ, ◌+◌, ◌*◌, ◌/◌, ◌%◌, ◌≤◌, ◌<◌, length, get_or}
+use Rattle.std.specs.Prelude as Code
+use Rattle.std.specs.Prelude.{Bool, false, List, ◌≡◌, ℕ, ◌+◌, ◌*◌, ◌/◌, ◌%◌, ◌≤◌, ◌<◌, length, get_or, Some, None}
 use Rattle.std.proofs.Math.Option.{none, some}
 use Rattle.event.specs.Span.{span}
 use Rattle.slots.specs.Slots.{slot_of}
 use Rattle.grammar.specs.Document.{Pool}
 use Rattle.writer_spec.specs.Encode.{find}
 use Rattle.writer_spec.specs.Faults.{string_fault}
-use Rattle.writer.specs.declared.notes.Look.{Look}
 
 -- ---- a note's words: the name's span, its index in the pool, and the number of the note before it in its slot
 
@@ -38,9 +38,9 @@ module _ (first second : List ℕ) where
   abbrev pub Unnoted : List ℕ → List ℕ → Type 0
   Unnoted notes n = (k : ℕ) → k < count notes → note_name notes k ≡ n → ⊥
 
-  abbrev pub LookSays : List ℕ → List ℕ → Look → Type 0
-  LookSays notes n (Look.At i) = (k : ℕ) × (k < count notes) × (note_name notes k ≡ n) × (note_index notes k ≡ i)
-  LookSays notes n Look.Nowhere = Unnoted notes n
+  abbrev pub LookSays : List ℕ → List ℕ → Code.Option ℕ → Type 0
+  LookSays notes n (Some i) = (k : ℕ) × (k < count notes) × (note_name notes k ≡ n) × (note_index notes k ≡ i)
+  LookSays notes n None = Unnoted notes n
 
   -- What the notes say of the pool now, where it was `pool₀` when the call began: a note's name has no fault, its search
   -- meets no bad pair, and it stands in the pool first at the note's index. A name with no note is where it was.
@@ -53,8 +53,8 @@ module _ (first second : List ℕ) where
     pub complete : (n : List ℕ) → Unnoted notes n → find pool n ≡ find pool₀ n
 
 -- a note of the very span that a row's name has, and the index that it gives
-abbrev pub Recalled : List ℕ → List ℕ → Look → Type 0
-Recalled w notes (Look.At i) =
+abbrev pub Recalled : List ℕ → List ℕ → Code.Option ℕ → Type 0
+Recalled w notes (Some i) =
     (k : ℕ) × (k < length notes / 5) × (get_or notes (5 * k) 0 ≡ get_or w 1 0) × (get_or notes (5 * k + 1) 0 ≡ get_or w 2 0)
     × (get_or notes (5 * k + 2) 0 ≡ get_or w 3 0) × (get_or notes (5 * k + 3) 0 ≡ i)
-Recalled w notes Look.Nowhere = Unit {0}
+Recalled w notes None = Unit {0}

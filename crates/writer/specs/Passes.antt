@@ -1,5 +1,6 @@
 -- What the two passes of a call carry from row to row.
-use Rattle.std.specs.Prelude.{Bool, true, false, not, cond, List, [], ◌∷◌, ◌++◌, ◌≡◌, ℕ, ◌+◌, ◌*◌, ◌≤◌, ◌<◌, ltb, eqb, length, get_or, take}
+use Rattle.std.specs.Prelude.{Bool, true, false, not, cond, List, [], ◌∷◌, ◌++◌, ◌≡◌, ℕ, ◌+◌, ◌*◌, ◌≤◌, ◌<◌, ltb, eqb, length, get_or, take, Result, Ok, Err, Some, None}
+use Rattle.std.specs.Prelude as Code
 use Rattle.std.proofs.Math.Option.{Option, none, some}
 use Rattle.wire.specs.Refusal.{bad_size, bad_state, not_rows, pool_full, output_full}
 use Rattle.wire.specs.Token.{attribute, start_tag, text, null, string_interned}
@@ -11,14 +12,13 @@ use Rattle.writer_spec.specs.Faults.{string_fault}
 use Rattle.writer_spec.specs.Writer.{Writer, Lent, Refusal, sizes_bad, state_bad, ◌before◌, refuse_if, pool_at, meets_bad, row_refusal, rows_refusal, rows_in, write}
 use Rattle.writer.specs.Answers.{lent_of, state_of, left_of, forms_by, known_of}
 use Rattle.writer.specs.Notes.{Noted, Unnoted}
-use Rattle.writer.specs.declared.Writer as Code
-use Rattle.writer.specs.declared.Written.{Written}
-use Rattle.writer.specs.declared.put.Known as Name
+use Rattle.wire.specs.Answers.{number_of, detail_of}
+use Rattle.wire.specs.declared.Refusal as Wire
+use Rattle.writer.specs.declared.Writer as Declared
+use Rattle.writer.specs.declared.Stop.{Stop}
+use Rattle.writer.specs.declared.Stop.TheVariants.{Refused, Crowded}
 use Rattle.writer.specs.declared.measure.Tally.{Tally}
 use Rattle.writer.specs.declared.measure.NameSize.{NameSize}
-use Rattle.writer.specs.declared.measure.RowSize.{RowSize}
-use Rattle.writer.specs.declared.measure.Measured.{Measured}
-use Rattle.writer.specs.declared.tries.Outcome.{Outcome}
 
 -- ---- rooms and places
 
@@ -90,13 +90,13 @@ module _ (first second output table : List ℕ) (kept : ℕ) where
     pub more : More (keep pool n) notes notes' heads'
     pub settled : Settled first second (keep pool n) notes' n
 
-  abbrev pub NameSays : Pool → List ℕ → ℕ → List ℕ → List ℕ → List ℕ → NameSize → Type 0
-  NameSays pool n used notes notes' heads' (NameSize.Takes size names' used') =
-      (used' ≤ length notes') × NameTakes pool n size names' (take used notes) (take used' notes') heads'
-  NameSays pool n used notes notes' heads' (NameSize.Refused r) = name_refusal bad n ≡ some (r.number, r.detail)
-  NameSays pool n used notes notes' heads' NameSize.Crowded = length notes' < most-notes
+  abbrev pub NameSays : Pool → List ℕ → ℕ → List ℕ → List ℕ → List ℕ → Result NameSize Stop → Type 0
+  NameSays pool n used notes notes' heads' (Ok s) =
+      (s.used ≤ length notes') × NameTakes pool n s.size s.names (take used notes) (take s.used notes') heads'
+  NameSays pool n used notes notes' heads' (Err (Refused r)) = name_refusal bad n ≡ some (number_of r, detail_of r)
+  NameSays pool n used notes notes' heads' (Err Crowded) = length notes' < most-notes
 
-  abbrev pub NameMeasured : ℕ → List ℕ → ℕ → List ℕ → List ℕ → List ℕ → List ℕ → NameSize → Type 0
+  abbrev pub NameMeasured : ℕ → List ℕ → ℕ → List ℕ → List ℕ → List ℕ → List ℕ → Result NameSize Stop → Type 0
   NameMeasured names n used notes heads notes' heads' s =
       (pool : Pool) → length pool ≡ names → Known pool (take used notes) heads → NameSays pool n used notes notes' heads' s
 
@@ -108,14 +108,14 @@ module _ (first second output table : List ℕ) (kept : ℕ) where
     pub more : More (keep_row pool r) notes notes' heads'
     pub settled : has_name r.kind ≡ true → Settled first second (keep_row pool r) notes' r.name
 
-  abbrev pub RowNameSays : Pool → Row → ℕ → List ℕ → List ℕ → List ℕ → NameSize → Type 0
-  RowNameSays pool r used notes notes' heads' (NameSize.Takes size names' used') =
-      (used' ≤ length notes') × RowNamed pool r size names' (take used notes) (take used' notes') heads'
-  RowNameSays pool r used notes notes' heads' (NameSize.Refused s) =
-      cond (has_name r.kind) (name_refusal bad r.name) none ≡ some (s.number, s.detail)
-  RowNameSays pool r used notes notes' heads' NameSize.Crowded = length notes' < most-notes
+  abbrev pub RowNameSays : Pool → Row → ℕ → List ℕ → List ℕ → List ℕ → Result NameSize Stop → Type 0
+  RowNameSays pool r used notes notes' heads' (Ok s) =
+      (s.used ≤ length notes') × RowNamed pool r s.size s.names (take used notes) (take s.used notes') heads'
+  RowNameSays pool r used notes notes' heads' (Err (Refused s)) =
+      cond (has_name r.kind) (name_refusal bad r.name) none ≡ some (number_of s, detail_of s)
+  RowNameSays pool r used notes notes' heads' (Err Crowded) = length notes' < most-notes
 
-  abbrev pub RowNameMeasured : ℕ → Row → ℕ → List ℕ → List ℕ → List ℕ → List ℕ → NameSize → Type 0
+  abbrev pub RowNameMeasured : ℕ → Row → ℕ → List ℕ → List ℕ → List ℕ → List ℕ → Result NameSize Stop → Type 0
   RowNameMeasured names r used notes heads notes' heads' s =
       (pool : Pool) → length pool ≡ names → Known pool (take used notes) heads → RowNameSays pool r used notes notes' heads' s
 
@@ -127,38 +127,38 @@ module _ (first second output table : List ℕ) (kept : ℕ) where
     pub more : More (keep_row pool r) notes notes' heads'
     pub settled : has_name r.kind ≡ true → Settled first second (keep_row pool r) notes' r.name
 
-  abbrev pub RowSays : Pool → Row → Tally → List ℕ → List ℕ → List ℕ → RowSize → Type 0
-  RowSays pool r t notes notes' heads' (RowSize.Takes u) =
+  abbrev pub RowSays : Pool → Row → Tally → List ℕ → List ℕ → List ℕ → Result Tally Stop → Type 0
+  RowSays pool r t notes notes' heads' (Ok u) =
       (u.used ≤ length notes') × RowTakes pool r t.at u.at u.names (take t.used notes) (take u.used notes') heads'
-  RowSays pool r t notes notes' heads' (RowSize.Refused s) = row_refusal bad r ≡ some (s.number, s.detail)
-  RowSays pool r t notes notes' heads' RowSize.Crowded = length notes' < most-notes
+  RowSays pool r t notes notes' heads' (Err (Refused s)) = row_refusal bad r ≡ some (number_of s, detail_of s)
+  RowSays pool r t notes notes' heads' (Err Crowded) = length notes' < most-notes
 
-  abbrev pub RowMeasured : Row → Tally → List ℕ → List ℕ → List ℕ → List ℕ → RowSize → Type 0
+  abbrev pub RowMeasured : Row → Tally → List ℕ → List ℕ → List ℕ → List ℕ → Result Tally Stop → Type 0
   RowMeasured r t notes heads notes' heads' s =
       (pool : Pool) → length pool ≡ t.names → Known pool (take t.used notes) heads → RowSays pool r t notes notes' heads' s
 
   -- all rows are measured
-  abbrev pub MeasureSays : ℕ → List Row → List ℕ → List ℕ → Measured → Type 0
-  MeasureSays written rs notes' heads' (Measured.Used used) =
+  abbrev pub MeasureSays : ℕ → List Row → List ℕ → List ℕ → Result ℕ Stop → Type 0
+  MeasureSays written rs notes' heads' (Ok used) =
       (used ≤ length notes') × (rows_refusal (lent_of output table) bad written found rs ≡ none)
       × Known (keep_rows found rs) (take used notes') heads' × AllSettled first second (keep_rows found rs) (take used notes') rs
-  MeasureSays written rs notes' heads' (Measured.Refused r) = rows_refusal (lent_of output table) bad written found rs ≡ some (r.number, r.detail)
-  MeasureSays written rs notes' heads' Measured.Crowded = length notes' < most-notes
+  MeasureSays written rs notes' heads' (Err (Refused r)) = rows_refusal (lent_of output table) bad written found rs ≡ some (number_of r, detail_of r)
+  MeasureSays written rs notes' heads' (Err Crowded) = length notes' < most-notes
 
 -- ---- tries
 
--- What a try with room for so many words of notes says. Crowded: nothing has changed, and there was not room for all.
-abbrev pub Tried : Bool → Writer → Lent → List Row → List ℕ → List ℕ → ℕ → Outcome → Type 0
-Tried formed w l rs output table size (Outcome.Left r) = left_of r output table ≡ write formed w l rs
-Tried formed w l rs output table size Outcome.Crowded = (lent_of output table ≡ l) × (size < most-notes)
+-- What a try with room for so many words of notes says. None: it was crowded, nothing has changed, and there was not room for all.
+abbrev pub Tried : Bool → Writer → Lent → List Row → List ℕ → List ℕ → ℕ → Code.Option (Result Declared.Writer Wire.Refusal) → Type 0
+Tried formed w l rs output table size (Some r) = left_of r output table ≡ write formed w l rs
+Tried formed w l rs output table size None = (lent_of output table ≡ l) × (size < most-notes)
 
 -- the same by a call's arguments: what its output and its table hold first, and what they hold then
-abbrev pub TriedBy : Bool → Code.Writer → List ℕ → List ℕ → List ℕ → List ℕ → List ℕ → List ℕ → List ℕ → ℕ → Outcome → Type 0
+abbrev pub TriedBy : Bool → Declared.Writer → List ℕ → List ℕ → List ℕ → List ℕ → List ℕ → List ℕ → List ℕ → ℕ → Code.Option (Result Declared.Writer Wire.Refusal) → Type 0
 TriedBy single writer first second rows output table output' table' size r =
     Tried (forms_by single first second rows) (state_of writer) (lent_of output table) (rows_in first second rows) output' table' size r
 
 -- what is left by a call that is never crowded
-abbrev pub WrittenBy : Bool → Code.Writer → List ℕ → List ℕ → List ℕ → List ℕ → List ℕ → List ℕ → List ℕ → Written → Type 0
+abbrev pub WrittenBy : Bool → Declared.Writer → List ℕ → List ℕ → List ℕ → List ℕ → List ℕ → List ℕ → List ℕ → Result Declared.Writer Wire.Refusal → Type 0
 WrittenBy single writer first second rows output table output' table' r =
     left_of r output' table' ≡ write (forms_by single first second rows) (state_of writer) (lent_of output table) (rows_in first second rows)
 
@@ -172,7 +172,7 @@ pub record Ready (first second output table : List ℕ) (kept written : ℕ) (rs
   pub settled : AllSettled first second (keep_rows (found first second output table kept) rs) notes rs
 
 -- the name's place in a pool, of which more names come after
-abbrev pub KnownSays : List ℕ → List ℕ → List ℕ → List ℕ → ℕ → Row → Name.Known → Type 0
+abbrev pub KnownSays : List ℕ → List ℕ → List ℕ → List ℕ → ℕ → Row → Code.Option ℕ → Type 0
 KnownSays first second notes heads names r k =
     (bad : List ℕ → Bool) (pool₀ pool more : Pool) → length pool ≡ names → Noted first second bad pool₀ (pool ++ more) notes heads
     → (has_name r.kind ≡ true → Settled first second (pool ++ more) notes r.name) → known_of k ≡ cond (has_name r.kind) (find pool r.name) none

@@ -12,72 +12,63 @@ mod tries;
 ghost use Rattle.std.specs.Prelude.{◌≡◌};
 ghost use Rattle.writer_spec.specs.Writer.{sizes_bad, state_bad, create, write_event, write_events};
 ghost use Rattle.writer.specs.Answers.{lent_of, state_of, left_of};
+ghost use Rattle.writer.specs.declared.Stop.TheVariants.{Refused};
 
-use tries::Outcome;
 use wire::{Refusal, limits};
 
 // ---- what a call lends
 
 // The first `written` bytes of the output are used, the header included; the pool table has `names` pairs.
-#[derive(Clone, Copy)]
+#[derive(Clone, Copy, Debug, PartialEq, Eq)]
 pub struct Writer {
     pub written: usize,
     pub names: usize,
 }
 
-#[derive(Clone, Copy)]
-pub enum Written {
-    Wrote(Writer),
+// Why measuring ends early: the call is refused, or there is no room for the note of another name.
+#[derive(Clone, Copy, Debug, PartialEq, Eq)]
+pub enum Stop {
     Refused(Refusal),
+    Crowded,
 }
 
-pub(crate) fn refused(number: u32) -> Written
-    ensures { result ≡ Written.Refused (record { number = number; detail = 0 }) }
-{
-    Written::Refused(Refusal { number, detail: 0 })
+impl From<Refusal> for Stop {
+    ghost from_gives = { λ refusal stop. stop ≡ Refused refusal };
+
+    fn from(refusal: Refusal) -> Stop {
+        Stop::Refused(refusal)
+    }
 }
 
 // Whether no call takes buffers of these lengths: 17.
+#[tactic(auto, unfolding(writer_spec::specs::Writer::sizes_bad))]
 pub(crate) fn sizes_bad(output: &[u8], pool: &[u32]) -> bool
     ensures { result ≡ sizes_bad (lent_of output.now pool.now) }
 {
-    if limits::MAX_STORE < output.len() {
-        return true;
-    }
-    if pool.len() % 2 == 1 {
-        return true;
-    }
-    limits::MAX_TABLE < pool.len()
+    limits::MAX_STORE < output.len() || pool.len() % 2 == 1 || limits::MAX_TABLE < pool.len()
 }
 
 // Whether the state counts more bytes or pairs than are lent: 19.
 pub(crate) fn state_bad(writer: Writer, output: &[u8], pool: &[u32]) -> bool
     ensures { result ≡ state_bad (state_of writer) (lent_of output.now pool.now) }
 {
-    let written = writer.written;
-    if output.len() < written {
-        return true;
-    }
-    pool.len() / 2 < writer.names
+    output.len() < writer.written || pool.len() / 2 < writer.names
 }
 
 // ---- the calls
 
 // The header and an empty pool.
-pub fn create(output: &mut [u8], pool: &[u32]) -> Written
+pub fn create(output: &mut [u8], pool: &[u32]) -> Result<Writer, Refusal>
     ensures { left_of result output.new pool.now ≡ create (lent_of output.old pool.now) }
 {
     if sizes_bad(output, pool) {
-        return refused(Refusal::BAD_SIZE);
+        return Err(Refusal::BadSize);
     }
     if output.len() < 4 {
-        return refused(Refusal::OUTPUT_FULL);
+        return Err(Refusal::OutputFull);
     }
-    output[0] = header::MAGIC[0];
-    output[1] = header::MAGIC[1];
-    output[2] = header::MAGIC[2];
-    output[3] = header::MAGIC[3];
-    Written::Wrote(Writer {
+    output[..4].copy_from_slice(&header::MAGIC);
+    Ok(Writer {
         written: 4,
         names: 0,
     })
@@ -91,14 +82,14 @@ pub fn write_event<'a>(
     rows: &[u32],
     output: &mut [u8],
     pool: &mut [u32],
-) -> Written
+) -> Result<Writer, Refusal>
     ensures { left_of result output.new pool.new ≡ write_event (state_of writer) first.now second.now rows.now (lent_of output.old pool.old) }
 {
-    if let Outcome::Left(w) = tries::write_short(true, writer, first, second, rows, output, pool) {
-        return w;
+    if let Some(answer) = tries::write_short(true, writer, first, second, rows, output, pool) {
+        return answer;
     }
-    if let Outcome::Left(w) = tries::write_long(true, writer, first, second, rows, output, pool) {
-        return w;
+    if let Some(answer) = tries::write_long(true, writer, first, second, rows, output, pool) {
+        return answer;
     }
     tries::write_longest(true, writer, first, second, rows, output, pool)
 }
@@ -111,14 +102,14 @@ pub fn write_events<'a>(
     rows: &[u32],
     output: &mut [u8],
     pool: &mut [u32],
-) -> Written
+) -> Result<Writer, Refusal>
     ensures { left_of result output.new pool.new ≡ write_events (state_of writer) first.now second.now rows.now (lent_of output.old pool.old) }
 {
-    if let Outcome::Left(w) = tries::write_short(false, writer, first, second, rows, output, pool) {
-        return w;
+    if let Some(answer) = tries::write_short(false, writer, first, second, rows, output, pool) {
+        return answer;
     }
-    if let Outcome::Left(w) = tries::write_long(false, writer, first, second, rows, output, pool) {
-        return w;
+    if let Some(answer) = tries::write_long(false, writer, first, second, rows, output, pool) {
+        return answer;
     }
     tries::write_longest(false, writer, first, second, rows, output, pool)
 }

@@ -12,12 +12,11 @@ ghost use Rattle.writer.specs.Passes.{most-notes, Slots};
 fn is_noted<'a>(
     first: &'a [u8],
     second: &'a [u8],
-    w: &[u32],
+    w: &[u32; 8],
     name: &[u8],
     notes: &[u32],
     k: usize,
 ) -> bool
-    requires in_bounds { 8 ≤ length w.now }
     requires k_in_bounds { 5 * k + 5 ≤ length notes.now }
     requires name_value { name.now ≡ span first.now second.now (get_or w.now 1 0) (get_or w.now 2 0) (get_or w.now 3 0) }
     ensures { result ≡ same (note_name first.now second.now notes.now k) name.now }
@@ -25,33 +24,22 @@ fn is_noted<'a>(
     let source = notes[5 * k];
     let start = notes[5 * k + 1];
     let len = notes[5 * k + 2];
-    if start == w[2] {
-        if len == w[3] {
-            if source == w[1] {
-                return true;
-            }
-        }
+    if start == w[2] && len == w[3] && source == w[1] {
+        return true;
     }
     equal_bytes::same_bytes(event::span(first, second, source, start, len), name)
-}
-
-#[derive(Clone, Copy)]
-pub enum Look {
-    At(u32),
-    Nowhere,
 }
 
 // The index that the note of a row's name has.
 pub(crate) fn look_up<'a>(
     first: &'a [u8],
     second: &'a [u8],
-    w: &[u32],
+    w: &[u32; 8],
     name: &[u8],
     notes: &[u32],
     heads: &[u16],
     slot: usize,
-) -> Look
-    requires in_bounds { 8 ≤ length w.now }
+) -> Option<u32>
     requires name_value { name.now ≡ span first.now second.now (get_or w.now 1 0) (get_or w.now 2 0) (get_or w.now 3 0) }
     requires slot_value { (slot ≡ slot_of (length heads.now) name.now) × (slot < length heads.now) }
     requires linked { Linked first.now second.now notes.now heads.now }
@@ -61,40 +49,34 @@ pub(crate) fn look_up<'a>(
     while next != 0 {
         let k = next - 1;
         if is_noted(first, second, w, name, notes, k) {
-            return Look::At(notes[5 * k + 3]);
+            return Some(notes[5 * k + 3]);
         }
         next = notes[5 * k + 4] as usize;
     }
-    Look::Nowhere
+    None
 }
 
 // Adds the note of a row's name.
 pub(crate) fn note(
-    w: &[u32],
+    w: &[u32; 8],
     index: u32,
     notes: &mut [u32],
     used: usize,
     heads: &mut [u16],
     slot: usize,
 )
-    requires in_bounds { 8 ≤ length w.now }
     requires used_in_bounds { (used + 5 ≤ length notes.old) × (used + 5 ≤ most-notes) }
     requires slot_in_bounds { slot < length heads.old }
     ensures notes_after { notes.new ≡ sets notes.old used (get_or w.now 1 0 ∷ get_or w.now 2 0 ∷ get_or w.now 3 0 ∷ index ∷ get_or heads.old slot 0 ∷ []) }
     ensures heads_after { heads.new ≡ set heads.old slot (used / 5 + 1) }
 {
-    notes[used] = w[1];
-    notes[used + 1] = w[2];
-    notes[used + 2] = w[3];
-    notes[used + 3] = index;
-    notes[used + 4] = heads[slot] as u32;
+    notes[used..used + 5].copy_from_slice(&[w[1], w[2], w[3], index, heads[slot] as u32]);
     heads[slot] = (used / 5 + 1) as u16;
 }
 
 // Most names come again with the span that they were noted by. `seen` guesses the note by where a span starts, and the note
 // itself says whether the guess is right, so that nothing hangs on what `seen` holds.
-pub(crate) fn recall(w: &[u32], notes: &[u32], seen: &[u16]) -> Look
-    requires in_bounds { 8 ≤ length w.now }
+pub(crate) fn recall(w: &[u32; 8], notes: &[u32], seen: &[u16]) -> Option<u32>
     requires slots { Slots (length seen.now) }
     ensures { Recalled w.now notes.now result }
 {
@@ -102,16 +84,12 @@ pub(crate) fn recall(w: &[u32], notes: &[u32], seen: &[u16]) -> Look
     let k = seen[slots::slot_by(start as u64, seen.len() as u16)] as usize;
     let note = 5 * k;
     if notes.len() < note + 5 {
-        return Look::Nowhere;
+        return None;
     }
-    if notes[note + 1] == start {
-        if notes[note + 2] == w[3] {
-            if notes[note] == w[1] {
-                return Look::At(notes[note + 3]);
-            }
-        }
+    if notes[note + 1] == start && notes[note + 2] == w[3] && notes[note] == w[1] {
+        return Some(notes[note + 3]);
     }
-    Look::Nowhere
+    None
 }
 
 // Of the notes whose spans start at one place, or share its slot, the first is guessed.

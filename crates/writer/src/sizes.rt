@@ -10,8 +10,7 @@ use event::Shape;
 use wire::{Refusal, limits};
 
 // The span of a row's name.
-pub(crate) fn name_in<'a>(first: &'a [u8], second: &'a [u8], w: &[u32]) -> &'a [u8]
-    requires { 8 ≤ length w.now }
+pub(crate) fn name_in<'a>(first: &'a [u8], second: &'a [u8], w: &[u32; 8]) -> &'a [u8]
     ensures bytes { result.now ≡ span first.now second.now (get_or w.now 1 0) (get_or w.now 2 0) (get_or w.now 3 0) }
     ensures short { length result.now < 4294967296 }
 {
@@ -19,90 +18,55 @@ pub(crate) fn name_in<'a>(first: &'a [u8], second: &'a [u8], w: &[u32]) -> &'a [
 }
 
 // The span of its value.
-pub(crate) fn value_in<'a>(first: &'a [u8], second: &'a [u8], w: &[u32]) -> &'a [u8]
-    requires { 8 ≤ length w.now }
+pub(crate) fn value_in<'a>(first: &'a [u8], second: &'a [u8], w: &[u32; 8]) -> &'a [u8]
     ensures bytes { result.now ≡ span first.now second.now (get_or w.now 5 0) (get_or w.now 6 0) (get_or w.now 7 0) }
     ensures short { length result.now < 4294967296 }
 {
     event::span(first, second, w[5], w[6], w[7])
 }
 
-// Nothing, or why a call is refused.
-#[derive(Clone, Copy)]
-pub enum Fault {
-    Nothing,
-    Refused(Refusal),
-}
-
 // Of a blob only its length can be wrong.
-fn blob_fault(s: &[u8]) -> Fault
+fn blob_fault(s: &[u8]) -> Result<(), Refusal>
     requires { length s.now < 4294967296 }
     ensures { fault_of result ≡ blob_fault s.now }
 {
     if limits::MAX_UNSIGNED_SHORT < s.len() {
-        return Fault::Refused(Refusal {
-            number: Refusal::VALUE_TOO_LONG,
-            detail: s.len() as u32,
-        });
+        return Err(Refusal::ValueTooLong(s.len() as u32));
     }
-    Fault::Nothing
+    Ok(())
 }
 
-pub(crate) fn string_fault(s: &[u8]) -> Fault
+pub(crate) fn string_fault(s: &[u8]) -> Result<(), Refusal>
     requires { length s.now < 4294967296 }
     ensures { fault_of result ≡ string_fault s.now }
 {
-    if limits::MAX_UNSIGNED_SHORT < s.len() {
-        return Fault::Refused(Refusal {
-            number: Refusal::VALUE_TOO_LONG,
-            detail: s.len() as u32,
-        });
-    }
+    blob_fault(s)?;
     if utf8::is_utf8(s) {
-        return Fault::Nothing;
-    }
-    Fault::Refused(Refusal::new(Refusal::INVALID_UTF8))
-}
-
-// How many bytes something takes, or why it is refused.
-#[derive(Clone, Copy)]
-pub enum Size {
-    Takes(usize),
-    Refused(Refusal),
-}
-
-fn size_unless(fault: Fault, size: usize) -> Size
-    ensures { size_of result ≡ measured (fault_of fault) size }
-{
-    match fault {
-        Fault::Nothing => Size::Takes(size),
-        Fault::Refused(r) => Size::Refused(r),
+        Ok(())
+    } else {
+        Err(Refusal::InvalidUtf8)
     }
 }
 
 // A part of a store, as a string. It is checked where it stands, which is quicker than a slice of its own.
-fn part_size(store: &[u8], start: usize, len: usize) -> Size
+fn part_size(store: &[u8], start: usize, len: usize) -> Result<usize, Refusal>
     requires { (start < 4294967296) × (len < 4294967296) }
     ensures { size_of result ≡ measured (string_fault (part store.now start len)) (2 + length (part store.now start len)) }
 {
     if store.len() < start + len {
-        return Size::Takes(2);
+        return Ok(2);
     }
     if limits::MAX_UNSIGNED_SHORT < len {
-        return Size::Refused(Refusal {
-            number: Refusal::VALUE_TOO_LONG,
-            detail: len as u32,
-        });
+        return Err(Refusal::ValueTooLong(len as u32));
     }
     if utf8_part::is_utf8_part(store, start, len) {
-        return Size::Takes(2 + len);
+        return Ok(2 + len);
     }
-    Size::Refused(Refusal::new(Refusal::INVALID_UTF8))
+    Err(Refusal::InvalidUtf8)
 }
 
 // The value's span, as a string.
-fn string_size<'a>(first: &'a [u8], second: &'a [u8], w: &[u32]) -> Size
-    requires { 8 ≤ length w.now }
+fn string_size<'a>(first: &'a [u8], second: &'a [u8], w: &[u32; 8]) -> Result<usize, Refusal>
     ensures { size_of result ≡ measured (string_fault (value_in first.now second.now w.now)) (2 + length (value_in first.now second.now w.now)) }
 {
     if w[5] == 0 {
@@ -111,24 +75,26 @@ fn string_size<'a>(first: &'a [u8], second: &'a [u8], w: &[u32]) -> Size
     if w[5] == 1 {
         return part_size(second, w[6] as usize, w[7] as usize);
     }
-    Size::Takes(2)
+    Ok(2)
 }
 
-// The value of the row that the first eight words say.
-pub(crate) fn value_size<'a>(first: &'a [u8], second: &'a [u8], w: &[u32]) -> Size
-    requires { 8 ≤ length w.now }
+// The value of the row that eight words say.
+pub(crate) fn value_size<'a>(
+    first: &'a [u8],
+    second: &'a [u8],
+    w: &[u32; 8],
+) -> Result<usize, Refusal>
     ensures { size_of result ≡ measured (value_fault (shape (row_at first.now second.now w.now).type) (row_at first.now second.now w.now).value) (length (value_bytes (row_at first.now second.now w.now).value)) }
 {
     match event::shape_of(w[4]) {
-        Shape::Nothing => Size::Takes(0),
+        Shape::Nothing | Shape::Interned | Shape::Unknown => Ok(0),
         Shape::String => string_size(first, second, w),
-        Shape::Interned => Size::Takes(0),
         Shape::Blob => {
             let s = value_in(first, second, w);
-            size_unless(blob_fault(s), 2 + s.len())
+            blob_fault(s)?;
+            Ok(2 + s.len())
         }
-        Shape::Word => Size::Takes(4),
-        Shape::Pair => Size::Takes(8),
-        Shape::Unknown => Size::Takes(0),
+        Shape::Word => Ok(4),
+        Shape::Pair => Ok(8),
     }
 }

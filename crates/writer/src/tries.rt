@@ -1,25 +1,17 @@
 // A call with rows: its checks, and tries by how many names they can note.
-ghost use Rattle.std.specs.Prelude.{true, false, ◌≡◌, length};
+ghost use Rattle.std.specs.Prelude.{true, false, ◌≡◌, ◌≤◌, length};
 ghost use Rattle.event.specs.Words.{list_forms};
 ghost use Rattle.writer_spec.specs.Writer.{sizes_bad, state_bad, rows_in};
 ghost use Rattle.writer.specs.Answers.{lent_of, state_of, forms_by, fault_of};
 ghost use Rattle.slots.specs.Slots.{Fresh};
 ghost use Rattle.pool_index.specs.Index.{MaybeIndexed};
-ghost use Rattle.writer.specs.Passes.{Slots, call_fault, Tried, TriedBy, WrittenBy};
+ghost use Rattle.writer.specs.Passes.{most-notes, Slots, call_fault, Tried, TriedBy, WrittenBy};
 
-use crate::measure::Measured;
-use crate::sizes::Fault;
-use crate::{Writer, Written, measure, put};
+use crate::{Stop, Writer, measure, put};
 use wire::Refusal;
 
-// What a try with so many notes came to. Crowded: it had no room for another, and changed nothing.
-#[derive(Clone, Copy)]
-pub enum Outcome {
-    Left(Written),
-    Crowded,
-}
-
-// Rows that form: all that is left to refuse them is found by measuring.
+// Rows that form: all that is left to refuse them is found by measuring. None: there was no room for the note of another name, and
+// nothing has changed.
 fn write_noted<'a>(
     writer: Writer,
     first: &'a [u8],
@@ -31,7 +23,7 @@ fn write_noted<'a>(
     heads: &mut [u16],
     seen: &mut [u16],
     index: &[u16],
-) -> Outcome
+) -> Option<Result<Writer, Refusal>>
     requires maybe_indexed { MaybeIndexed output.old pool.old writer.names index.now }
     requires rows_value { list_forms first.now second.now rows.now ≡ true }
     requires pool_value { sizes_bad (lent_of output.old pool.old) ≡ false }
@@ -43,9 +35,9 @@ fn write_noted<'a>(
     match measure::measure(
         first, second, rows, output, pool, writer, notes, heads, seen, index,
     ) {
-        Measured::Refused(r) => Outcome::Left(Written::Refused(r)),
-        Measured::Crowded => Outcome::Crowded,
-        Measured::Used(used) => Outcome::Left(Written::Wrote(put::write_rows(
+        Err(Stop::Refused(r)) => Some(Err(r)),
+        Err(Stop::Crowded) => None,
+        Ok(used) => Some(Ok(put::write_rows(
             first,
             second,
             rows,
@@ -78,19 +70,19 @@ fn call_fault(
     rows: &[u32],
     output: &[u8],
     pool: &[u32],
-) -> Fault
+) -> Result<(), Refusal>
     ensures { fault_of result ≡ call_fault (forms_by single first.now second.now rows.now) (state_of writer) (lent_of output.now pool.now) }
 {
     if crate::sizes_bad(output, pool) {
-        return Fault::Refused(Refusal::new(Refusal::BAD_SIZE));
+        return Err(Refusal::BadSize);
     }
     if crate::state_bad(writer, output, pool) {
-        return Fault::Refused(Refusal::new(Refusal::BAD_STATE));
+        return Err(Refusal::BadState);
     }
     if forms(single, first, second, rows) {
-        return Fault::Nothing;
+        return Ok(());
     }
-    Fault::Refused(Refusal::new(Refusal::NOT_ROWS))
+    Err(Refusal::NotRows)
 }
 
 // The checks, and then the rows.
@@ -106,15 +98,15 @@ fn write_checked<'a>(
     heads: &mut [u16],
     seen: &mut [u16],
     index: &mut [u16],
-) -> Outcome
+) -> Option<Result<Writer, Refusal>>
     requires fresh { Fresh index.old }
     requires slots { Slots (length heads.old) × Fresh heads.old }
     requires slots_2 { Slots (length seen.old) }
     ensures { TriedBy single writer first.now second.now rows.now output.old pool.old output.new pool.new (length notes.old) result }
 {
     match call_fault(single, writer, first, second, rows, output, pool) {
-        Fault::Refused(r) => Outcome::Left(Written::Refused(r)),
-        Fault::Nothing => {
+        Err(r) => Some(Err(r)),
+        Ok(()) => {
             pool_index::prepare(output, pool, writer.names, index);
             write_noted(
                 writer, first, second, rows, output, pool, notes, heads, seen, index,
@@ -126,10 +118,11 @@ fn write_checked<'a>(
 // ---- tries, by how many names they can note
 //
 // The arrays of a try are the stack of its function. The compiler makes a small function part of its callers, frame and all, and
-// leaves one apart that has two tries and two callers. So the tries come in pairs, and a call goes from pair to pair.
+// leaves one apart that has two tries and two callers. So the tries come in pairs, and a call goes from pair to pair. That is why
+// `single` is a bool, too: with a closure for the test of the rows each pair would have one caller, and all tries would lie in its frame.
 
-// Notes of 64 names.
-fn write_few<'a>(
+// A try with so many words of notes, slots of notes, guesses, and words of the pool's index: 81,920, or 1 and no index.
+fn write_with<'a, const NOTES: usize, const HEADS: usize, const SEEN: usize, const INDEX: usize>(
     single: bool,
     writer: Writer,
     first: &'a [u8],
@@ -137,130 +130,24 @@ fn write_few<'a>(
     rows: &[u32],
     output: &mut [u8],
     pool: &mut [u32],
-) -> Outcome
-    ensures { TriedBy single writer first.now second.now rows.now output.old pool.old output.new pool.new 320 result }
+) -> Option<Result<Writer, Refusal>>
+    requires notes { NOTES ≤ most-notes }
+    requires heads { Slots HEADS }
+    requires seen { Slots SEEN }
+    requires index { INDEX ≤ 81920 }
+    ensures { TriedBy single writer first.now second.now rows.now output.old pool.old output.new pool.new NOTES result }
 {
-    let mut notes = [0u32; 320];
-    let mut heads = [0u16; 64];
-    let mut seen = [0u16; 64];
-    let mut index = [0u16; 1];
+    let mut notes = [0u32; NOTES];
+    let mut heads = [0u16; HEADS];
+    let mut seen = [0u16; SEEN];
+    let mut index = [0u16; INDEX];
     write_checked(
         single, writer, first, second, rows, output, pool, &mut notes, &mut heads, &mut seen,
         &mut index,
     )
 }
 
-// Notes of 1,024 names.
-fn write_some<'a>(
-    single: bool,
-    writer: Writer,
-    first: &'a [u8],
-    second: &'a [u8],
-    rows: &[u32],
-    output: &mut [u8],
-    pool: &mut [u32],
-) -> Outcome
-    ensures { TriedBy single writer first.now second.now rows.now output.old pool.old output.new pool.new 5_120 result }
-{
-    let mut notes = [0u32; 5_120];
-    let mut heads = [0u16; 1_024];
-    let mut seen = [0u16; 1_024];
-    let mut index = [0u16; 1];
-    write_checked(
-        single, writer, first, second, rows, output, pool, &mut notes, &mut heads, &mut seen,
-        &mut index,
-    )
-}
-
-// Notes of 20,480 names, and the pool's index.
-fn write_many<'a>(
-    single: bool,
-    writer: Writer,
-    first: &'a [u8],
-    second: &'a [u8],
-    rows: &[u32],
-    output: &mut [u8],
-    pool: &mut [u32],
-) -> Outcome
-    ensures { TriedBy single writer first.now second.now rows.now output.old pool.old output.new pool.new 102_400 result }
-{
-    let mut notes = [0u32; 102_400];
-    let mut heads = [0u16; 8_192];
-    let mut seen = [0u16; 8_192];
-    let mut index = [0u16; 81_920];
-    write_checked(
-        single, writer, first, second, rows, output, pool, &mut notes, &mut heads, &mut seen,
-        &mut index,
-    )
-}
-
-// Notes of 20,480 names.
-fn write_most<'a>(
-    single: bool,
-    writer: Writer,
-    first: &'a [u8],
-    second: &'a [u8],
-    rows: &[u32],
-    output: &mut [u8],
-    pool: &mut [u32],
-) -> Outcome
-    ensures { TriedBy single writer first.now second.now rows.now output.old pool.old output.new pool.new 102_400 result }
-{
-    let mut notes = [0u32; 102_400];
-    let mut heads = [0u16; 8_192];
-    let mut seen = [0u16; 65_535];
-    let mut index = [0u16; 1];
-    write_checked(
-        single, writer, first, second, rows, output, pool, &mut notes, &mut heads, &mut seen,
-        &mut index,
-    )
-}
-
-// Notes of 32,768 names, and the pool's index.
-fn write_nearly_all<'a>(
-    single: bool,
-    writer: Writer,
-    first: &'a [u8],
-    second: &'a [u8],
-    rows: &[u32],
-    output: &mut [u8],
-    pool: &mut [u32],
-) -> Outcome
-    ensures { TriedBy single writer first.now second.now rows.now output.old pool.old output.new pool.new 163_840 result }
-{
-    let mut notes = [0u32; 163_840];
-    let mut heads = [0u16; 16_384];
-    let mut seen = [0u16; 32_768];
-    let mut index = [0u16; 81_920];
-    write_checked(
-        single, writer, first, second, rows, output, pool, &mut notes, &mut heads, &mut seen,
-        &mut index,
-    )
-}
-
-// Notes of every name that a pool can hold.
-fn write_with_all<'a>(
-    single: bool,
-    writer: Writer,
-    first: &'a [u8],
-    second: &'a [u8],
-    rows: &[u32],
-    output: &mut [u8],
-    pool: &mut [u32],
-) -> Outcome
-    ensures { TriedBy single writer first.now second.now rows.now output.old pool.old output.new pool.new 327_675 result }
-{
-    let mut notes = [0u32; 327_675];
-    let mut heads = [0u16; 16_384];
-    let mut seen = [0u16; 32_768];
-    let mut index = [0u16; 81_920];
-    write_checked(
-        single, writer, first, second, rows, output, pool, &mut notes, &mut heads, &mut seen,
-        &mut index,
-    )
-}
-
-// The same, which is never crowded.
+// Notes of every name that a pool can hold, and the pool's index: it is never crowded.
 fn write_all<'a>(
     single: bool,
     writer: Writer,
@@ -269,12 +156,14 @@ fn write_all<'a>(
     rows: &[u32],
     output: &mut [u8],
     pool: &mut [u32],
-) -> Written
+) -> Result<Writer, Refusal>
     ensures { WrittenBy single writer first.now second.now rows.now output.old pool.old output.new pool.new result }
 {
-    match write_with_all(single, writer, first, second, rows, output, pool) {
-        Outcome::Left(w) => w,
-        Outcome::Crowded => crate::refused(Refusal::POOL_FULL),
+    match write_with::<327_675, 16_384, 32_768, 81_920>(
+        single, writer, first, second, rows, output, pool,
+    ) {
+        Some(answer) => answer,
+        None => Err(Refusal::PoolFull),
     }
 }
 
@@ -287,21 +176,20 @@ pub(crate) fn write_short<'a>(
     rows: &[u32],
     output: &mut [u8],
     pool: &mut [u32],
-) -> Outcome
+) -> Option<Result<Writer, Refusal>>
     ensures { TriedBy single writer first.now second.now rows.now output.old pool.old output.new pool.new 5_120 result }
 {
     if rows.len() <= 512 {
-        return write_few(single, writer, first, second, rows, output, pool);
+        // Notes of 64 names.
+        return write_with::<320, 64, 64, 1>(single, writer, first, second, rows, output, pool);
     }
-    if rows.len() <= 32_768 {
-        if single {
-            return write_some(single, writer, first, second, rows, output, pool);
-        }
-        if writer.names < 256 {
-            return write_some(single, writer, first, second, rows, output, pool);
-        }
+    if rows.len() <= 32_768 && (single || writer.names < 256) {
+        // Notes of 1,024 names.
+        return write_with::<5_120, 1_024, 1_024, 1>(
+            single, writer, first, second, rows, output, pool,
+        );
     }
-    Outcome::Crowded
+    None
 }
 
 // Any number of rows.
@@ -313,13 +201,17 @@ pub(crate) fn write_long<'a>(
     rows: &[u32],
     output: &mut [u8],
     pool: &mut [u32],
-) -> Outcome
+) -> Option<Result<Writer, Refusal>>
     ensures { TriedBy single writer first.now second.now rows.now output.old pool.old output.new pool.new 102_400 result }
 {
     if writer.names < 256 {
-        return write_most(single, writer, first, second, rows, output, pool);
+        // Notes of 20,480 names.
+        return write_with::<102_400, 8_192, 65_535, 1>(
+            single, writer, first, second, rows, output, pool,
+        );
     }
-    write_many(single, writer, first, second, rows, output, pool)
+    // Notes of 20,480 names, and the pool's index.
+    write_with::<102_400, 8_192, 8_192, 81_920>(single, writer, first, second, rows, output, pool)
 }
 
 // Any number of rows and names.
@@ -331,14 +223,17 @@ pub(crate) fn write_longest<'a>(
     rows: &[u32],
     output: &mut [u8],
     pool: &mut [u32],
-) -> Written
+) -> Result<Writer, Refusal>
     ensures { WrittenBy single writer first.now second.now rows.now output.old pool.old output.new pool.new result }
 {
     if 262_144 < rows.len() {
         return write_all(single, writer, first, second, rows, output, pool);
     }
-    if let Outcome::Left(w) = write_nearly_all(single, writer, first, second, rows, output, pool) {
-        return w;
+    // Notes of 32,768 names, and the pool's index.
+    if let Some(answer) = write_with::<163_840, 16_384, 32_768, 81_920>(
+        single, writer, first, second, rows, output, pool,
+    ) {
+        return answer;
     }
     write_all(single, writer, first, second, rows, output, pool)
 }

@@ -6,14 +6,15 @@ ghost use Rattle.writer.specs.Answers.{reply_of};
 ghost use Rattle.abx_words.specs.Words.{answered, reply_words};
 
 use abx_words::{DONE, put, put_refused};
-use writer::Written;
+use wire::Refusal;
+use writer::Writer;
 
 // 0, bytes written and names; or a refusal.
-pub fn tell_written(answer: &mut [usize], written: Written)
+pub fn tell_written(answer: &mut [usize], written: Result<Writer, Refusal>)
     ensures { answer.new ≡ answered answer.old (reply_words (reply_of written)) }
 {
     match written {
-        Written::Wrote(w) => put(answer, DONE, w.written, w.names, 0),
-        Written::Refused(r) => put_refused(answer, r),
+        Ok(w) => put(answer, DONE, w.written, w.names, 0),
+        Err(r) => put_refused(answer, r),
     }
 }

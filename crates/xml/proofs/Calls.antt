@@ -1,35 +1,36 @@
 -- What a call answers, by the passes.
-use mathlib.Core.Bool.{Bool, true, false, not, cond, false≢true}
-use mathlib.Core.Option.{some}
-use mathlib.Core.List.{List}
-use mathlib.Core.Path.{◌≡◌, refl, sym, ap, ◌∙◌}
-use Prim.Native.Nat.{ℕ, ◌+◌, ◌*◌, ◌/◌, ◌%◌, ◌≤◌, ◌<◌}
-use native.Mathlib.Omega.{arith}
-use borrow.Author.Tests.{lt-ltb, le-ltb, ne_eqb, eqb-true, ltb-true}
-use lib.Dec.{ltb, eqb}
-use lib.ListN.{length, drop}
-use lib.Seq.{sets}
-use Rattle.wire.specs.Refusal.{invalid_utf8, illegal_char, output_full}
+use Rattle.std.proofs.Common.{Bool, true, false, not, cond, List, ◌≡◌, refl, sym, ap, ◌∙◌, ◌⊎◌, inl, inr, ℕ, ◌+◌, ◌*◌, ◌/◌, ◌%◌, ◌≤◌, ◌<◌, arith, lt-ltb, le-ltb, eqb-true, ltb-true, ltb, eqb, length, take, drop, drop-drop, Result, Ok, Err}
+use Rattle.std.specs.Prelude.{IsErrAnd}
+use Rattle.std.proofs.Math.Option.{none}
+use Rattle.std.proofs.lemmas.Bool.{false≢true}
+use Rattle.std.proofs.lemmas.List.Edits.{sets}
+use Rattle.wire.specs.Refusal.{output_full}
 use Rattle.wire.specs.Limits.{max_store}
-use Rattle.utf8.specs.Utf8.{well_formed}
-use Rattle.event.specs.Row.{row_at}
+use Rattle.wire.specs.Answers.{number_of, detail_of}
+use Rattle.wire.specs.declared.Refusal as Coded
+use Rattle.wire.specs.declared.Refusal.TheVariants.{InvalidUtf8, IllegalChar}
+use Rattle.event.specs.Row.{Row, row_at}
+use Rattle.event.specs.Laws.{row-of-eight}
 use Rattle.event.specs.Words.{list_forms}
+use Rattle.event.specs.Attributes.{list-placed}
 use Rattle.forms.specs.Placed.{row_forms_at}
 use Rattle.grammar.proofs.Choice.{by_test}
-use Rattle.writer_spec.specs.Writer.{Refusal, ◌before◌, refuse_if, rows_in}
-use Rattle.text.specs.Put.{after}
+use Rattle.writer_spec.specs.Writer.{rows_in, ends}
+use Rattle.text.specs.Put.{after, Put}
 use Rattle.text.specs.PutLaws.{after-within}
-use Rattle.xml_spec.specs.Chars.{legal}
-use Rattle.xml_spec.specs.ToXml.{of_row, refusal, Left, wrote, refused, unless, to_xml}
-use Rattle.xml_spec.specs.Rows.{rows_xml, row_fault, end_refusal, rows_refusal, row_text, row_refusal, row_to_xml}
+use Rattle.xml_spec.specs.ToXml.{refusal, Left, wrote, refused, unless, to_xml}
+use Rattle.xml_spec.specs.Rows.{row_xml, rows_xml, row_fault, end_refusal, rows_refusal, row_text, row_refusal, row_to_xml}
 use Rattle.xml_spec.proofs.Laws.{prints}
-use Rattle.event.specs.Attributes.{list-placed}
 use Rattle.xml_spec.proofs.Joined.{rows-joined, rows-refused}
-use Rattle.xml.specs.Passes.{told}
+use Rattle.xml.specs.Answers.{printed_of}
+use Rattle.xml.specs.Passes.{refused_by, row_alone}
+use Rattle.xml.proofs.Laws.{strings-fine, strings-broken, strings-illegal}
 
-pub told-some : (number : ℕ) → (number ≡ 0 → ⊥) → told number ≡ some (number, 0)
-unfolding told
-told-some number h = rw (ne_eqb number 0 h)
+-- a refusal that a call hands on
+pub handed-on : (out : List ℕ) (u : Result ℕ Coded.Refusal) (e : Coded.Refusal) (x : Left) → IsErrAnd u (λ y. y ≡ e)
+    → record { reply = refused (number_of e) (detail_of e); out = out } ≡ x → printed_of out u ≡ x
+handed-on out (Ok n) e x h f = absurd h
+handed-on out (Err y) e x h f = rw h f
 
 -- ---- a list
 
@@ -42,17 +43,17 @@ module _ (first second rows out : List ℕ) (formed : list_forms first second ro
   unfolding refusal
   refusal_is = rw (le-ltb max_store (length out) fits, formed) (sym (rows-refused (length out) 0 (rows_in first second rows) (list-placed first second rows formed)))
 
-  pub list-refused : (number : ℕ) → told number ≡ rows_refusal (length out) 0 true (rows_in first second rows) → (number ≡ 0 → ⊥)
-      → to_xml first second rows out ≡ record { reply = refused number 0; out = out }
+  pub list-refused : (e : Coded.Refusal) → refused_by e ≡ rows_refusal (length out) 0 true (rows_in first second rows)
+      → record { reply = refused (number_of e) (detail_of e); out = out } ≡ to_xml first second rows out
   unfolding to_xml unless
-  list-refused number h n = rw (refusal_is, ← h, told-some number n)
+  list-refused e h = rw (refusal_is, ← h)
 
-  printed : told 0 ≡ rows_refusal (length out) 0 true (rows_in first second rows)
+  printed : none ≡ rows_refusal (length out) 0 true (rows_in first second rows)
       → to_xml first second rows out ≡ record { reply = wrote (length (rows_xml (rows_in first second rows))); out = sets out 0 (rows_xml (rows_in first second rows)) }
-  unfolding to_xml unless told
+  unfolding to_xml unless
   printed h = rw (refusal_is, ← h, ← rows-joined (rows_in first second rows) (list-placed first second rows formed))
 
-  pub list-printed : (end : ℕ) (out' : List ℕ) → told 0 ≡ rows_refusal (length out) 0 true (rows_in first second rows)
+  pub list-printed : (end : ℕ) (out' : List ℕ) → none ≡ rows_refusal (length out) 0 true (rows_in first second rows)
       → out' ≡ sets out 0 (rows_xml (rows_in first second rows)) → end ≡ after (length out) 0 (length (rows_xml (rows_in first second rows)))
       → record { reply = wrote end; out = out' } ≡ to_xml first second rows out
   list-printed end out' h o e =
@@ -67,44 +68,36 @@ pub row-there : (first second rows : List ℕ) (row : ℕ) → row_forms_at firs
 unfolding row_forms_at
 row-there first second rows row h = by_test (ltb row (length rows / 8)) (λ e. ltb-true row (length rows / 8) e) (λ e. absurd (false≢true (sym (rw e) ∙ h)))
 
-strings-refuse : (wf ok : Bool) (f : Refusal) → (cond wf (cond ok 0 illegal_char) invalid_utf8 ≡ 0 → ⊥)
-    → (refuse_if (not wf) invalid_utf8 before refuse_if (not ok) illegal_char before f) ≡ some (cond wf (cond ok 0 illegal_char) invalid_utf8, 0)
-strings-refuse true true f h = absurd (h refl)
-strings-refuse true false f h = refl
-strings-refuse false ok f h = refl
+module _ (last : Bool) (r : Row) (out : List ℕ) where
+  pub alone-refused : (e : Coded.Refusal) → (e ≡ InvalidUtf8) ⊎ (e ≡ IllegalChar) → number_of e ≡ row_fault r
+      → record { reply = refused (number_of e) (detail_of e); out = out } ≡ row_alone last r out
+  unfolding unless end_refusal
+  alone-refused e (inl b) h = rw (b, strings-broken r (rw b at h))
+  alone-refused e (inr i) h = let s = strings-illegal r (rw i at h) in rw (i, s.0, s.1)
 
-strings-pass : (wf ok : Bool) (f : Refusal) → cond wf (cond ok 0 illegal_char) invalid_utf8 ≡ 0 → (refuse_if (not wf) invalid_utf8 before refuse_if (not ok) illegal_char before f) ≡ f
-strings-pass true true f h = refl
-strings-pass true false f h = absurd (omega arith)
-strings-pass false ok f h = absurd (omega arith)
+  module _ (end : ℕ) (f : 0 ≡ row_fault r) (e : end ≡ after (length out + 1) 0 (length (row_xml last r))) where
+    pub alone-full : length out < end → record { reply = refused output_full 0; out = out } ≡ row_alone last r out
+    unfolding unless end_refusal after
+    alone-full l =
+        let s = strings-fine r f in
+        let t = lt-ltb (length out) (length (row_xml last r)) (omega arith) in
+        rw (s.0, s.1, t)
 
-module _ (first second rows : List ℕ) (row : ℕ) (out : List ℕ) (formed : row_forms_at first second rows row ≡ true) (fits : length out ≤ max_store) where
-  row-refusal-is : row_refusal first second rows row out
-      ≡ (refuse_if (not (of_row well_formed (row_at first second (drop (8 * row) rows)))) invalid_utf8
-      before refuse_if (not (of_row legal (row_at first second (drop (8 * row) rows)))) illegal_char
-      before refuse_if (ltb (length out) (length (row_text first second rows row))) output_full)
-  unfolding row_refusal end_refusal
-  row-refusal-is = rw (le-ltb max_store (length out) fits, formed)
+    pub alone-put : (out' : List ℕ) (end' : ℕ) → end ≤ length out → Put out 0 (row_xml last r) out' end'
+        → record { reply = wrote end'; out = out' } ≡ row_alone last r out
+    unfolding unless end_refusal after
+    alone-put out' end' l p =
+        let s = strings-fine r f in
+        let t = le-ltb (length out) (length (row_xml last r)) (omega arith) in
+        let n : end' ≡ length (row_xml last r) = omega (arith, p.place) in
+        rw (s.0, s.1, t, n, p.text)
 
-  pub row-refused : (number : ℕ) → number ≡ row_fault (row_at first second (drop (8 * row) rows)) → (number ≡ 0 → ⊥)
-      → record { reply = refused number 0; out = out } ≡ row_to_xml first second rows row out
-  unfolding row_to_xml unless row_fault
-  row-refused number e n = rw (row-refusal-is, strings-refuse (of_row well_formed (row_at first second (drop (8 * row) rows))) (of_row legal (row_at first second (drop (8 * row) rows))) (refuse_if (ltb (length out) (length (row_text first second rows row))) output_full) (λ z. n (e ∙ z)), e)
-
-  left_is : row_fault (row_at first second (drop (8 * row) rows)) ≡ 0 → row_refusal first second rows row out ≡ refuse_if (ltb (length out) (length (row_text first second rows row))) output_full
-  unfolding row_fault
-  left_is h = row-refusal-is ∙ strings-pass (of_row well_formed (row_at first second (drop (8 * row) rows))) (of_row legal (row_at first second (drop (8 * row) rows))) _ h
-
-  pub row-full : (end : ℕ) → row_fault (row_at first second (drop (8 * row) rows)) ≡ 0 → end ≡ after (length out + 1) 0 (length (row_text first second rows row)) → length out < end
-      → record { reply = refused output_full 0; out = out } ≡ row_to_xml first second rows row out
-  unfolding row_to_xml unless after
-  row-full end h e l = let t = lt-ltb (length out) (length (row_text first second rows row)) (omega arith) in rw (left_is h, t)
-
-  pub row-printed : (end end' : ℕ) (out' : List ℕ) → row_fault (row_at first second (drop (8 * row) rows)) ≡ 0 → end ≡ after (length out + 1) 0 (length (row_text first second rows row)) → end ≤ length out
-      → out' ≡ sets out 0 (row_text first second rows row) → end' ≡ after (length out) 0 (length (row_text first second rows row))
-      → record { reply = wrote end'; out = out' } ≡ row_to_xml first second rows row out
-  unfolding row_to_xml unless after
-  row-printed end end' out' h e l o p =
-      let t = le-ltb (length out) (length (row_text first second rows row)) (omega arith) in
-      let n : end' ≡ length (row_text first second rows row) = omega arith in
-      rw (left_is h, t, n, o)
+-- the row of a list, where it forms there
+pub row-alone-is : (first second rows : List ℕ) (row : ℕ) (out w after : List ℕ) (last : Bool) → row_forms_at first second rows row ≡ true → length out ≤ max_store
+    → w ≡ take 8 (drop (8 * row) rows) → after ≡ drop 8 (drop (8 * row) rows) → ends (rows_in first second after) ≡ last
+    → row_alone last (row_at first second w) out ≡ row_to_xml first second rows row out
+unfolding row_to_xml row_refusal row_text
+row-alone-is first second rows row out w after last formed fits f a e =
+    let same : row_at first second w ≡ row_at first second (drop (8 * row) rows) = ap (row_at first second) f ∙ row-of-eight first second (drop (8 * row) rows) in
+    let rest : drop (8 * row + 8) rows ≡ after = sym (drop-drop 8 (8 * row) rows) ∙ sym a in
+    rw (le-ltb max_store (length out) fits, formed, rest, e, same)

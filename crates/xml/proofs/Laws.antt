@@ -1,83 +1,47 @@
 -- Rows as words, and what a row's turn leaves.
-use mathlib.Core.Bool.{Bool, true, false, ◌&&◌, not, cond}
-use mathlib.Core.Option.{some}
-use mathlib.Core.List.{List, [], ◌∷◌}
-use mathlib.Core.Path.{◌≡◌, refl, sym, ap, ◌∙◌}
-use Prim.Native.Nat.{ℕ, zero, suc, ◌+◌, ◌-◌, ◌/◌, ◌≤◌, ◌<◌, min}
-use native.Mathlib.Omega.{arith}
-use borrow.Author.Tests.{lt-ltb, le-ltb, ltb-true, ltb-false, leb-true, leb-false}
-use lib.Dec.{ltb, leb, eqb}
-use lib.ListN.{length, get_or, take, drop, length-drop}
-use lib.Seq.{drop-cons, drop-drop, get_or-drop}
+use Rattle.std.proofs.Common.{Bool, true, false, ◌&&◌, not, cond, List, [], ◌∷◌, ◌≡◌, refl, sym, ap, ◌∙◌, ℕ, suc, ◌+◌, ◌-◌, ◌/◌, ◌%◌, ◌≤◌, ◌<◌, min, arith, lt-ltb, le-ltb, ltb-true, ltb-false, ltb, eqb, length, get_or, take, drop, length-drop, get_or-take}
+use Rattle.std.proofs.Math.Option.{none, some}
+use Rattle.std.proofs.Common.{◌⊎◌, inl, inr, ◌∙◌, Result, Ok, Err}
+use Rattle.std.specs.Prelude.{IsErrAnd}
 use Rattle.wire.specs.Refusal.{invalid_utf8, illegal_char}
-use Rattle.utf8.specs.Utf8.{well_formed}
+use Rattle.wire.specs.Answers.{number_of}
+use Rattle.wire.specs.declared.Refusal as Coded
+use Rattle.wire.specs.declared.Refusal.TheVariants.{InvalidUtf8, IllegalChar}
 use Rattle.event.specs.Row.{Row, row_at, rows_at}
+use Rattle.event.specs.Laws.{row-of-eight}
 use Rattle.grammar.proofs.Choice.{by_test}
 use Rattle.writer_spec.specs.Writer.{◌before◌, rows_in, ends}
-use Rattle.text.specs.Put.{after}
+use Rattle.text.specs.Put.{after, Put}
+use Rattle.text.specs.PutLaws.{put_both}
+use Rattle.utf8.specs.Utf8.{well_formed}
 use Rattle.xml_spec.specs.Chars.{legal}
 use Rattle.xml_spec.specs.ToXml.{of_row}
-use Rattle.xml_spec.specs.Rows.{row_xml, row_fault, end_refusal, rows_refusal}
-use Rattle.xml.specs.Passes.{ends_at, EndSays, left, TurnSays}
+use Rattle.xml_spec.specs.Rows.{row_xml, rows_xml, row_fault, end_refusal, rows_refusal}
+use Rattle.xml.specs.Passes.{refused_by, EndSays, TurnSays}
 use Rattle.xml.specs.declared.Tally.{Tally}
-use Rattle.xml.specs.declared.Turn.{Turn}
 
 -- ---- words
 
--- so many words from a place on, one by one
-words_from : List ℕ → ℕ → ℕ → List ℕ
-words_from l at zero = []
-words_from l at (suc n) = get_or l at 0 ∷ words_from l (at + 1) n
+-- the rows of words are the first and those after it
+pub rows-next : (first second rows : List ℕ) → 8 ≤ length rows
+    → rows_in first second rows ≡ row_at first second (take 8 rows) ∷ rows_in first second (drop 8 rows)
+unfolding rows_at
+rows-next first second rows h =
+    let e : length rows / 8 ≡ suc (length (drop 8 rows) / 8) = omega (arith, length-drop 8 rows) in
+    rw (e, row-of-eight first second rows)
 
-words-from : (l : List ℕ) (n at : ℕ) → at + n ≤ length l → words_from l at n ≡ take n (drop at l)
-unfolding words_from
-words-from l zero at h = refl
-words-from l (suc n) at h =
-    let k : at + 1 ≡ suc at = omega arith in
-    rw (drop-cons l at 0 (omega arith), k) (ap (λ (t : List ℕ). get_or l at 0 ∷ t) (words-from l n (suc at) (omega arith)))
-
-pub eight : (l : List ℕ) (at : ℕ) → at + 8 ≤ length l
-    → get_or l at 0 ∷ get_or l (at + 1) 0 ∷ get_or l (at + 2) 0 ∷ get_or l (at + 3) 0 ∷ get_or l (at + 4) 0 ∷ get_or l (at + 5) 0 ∷ get_or l (at + 6) 0 ∷ get_or l (at + 7) 0 ∷ [] ≡ take 8 (drop at l)
-unfolding words_from
-eight l at h =
-    let a : at + 1 + 1 ≡ at + 2 = omega arith in
-    let b : at + 2 + 1 ≡ at + 3 = omega arith in
-    let c : at + 3 + 1 ≡ at + 4 = omega arith in
-    let d : at + 4 + 1 ≡ at + 5 = omega arith in
-    let e : at + 5 + 1 ≡ at + 6 = omega arith in
-    let f : at + 6 + 1 ≡ at + 7 = omega arith in
-    sym (rw (a, b, c, d, e, f) refl) ∙ words-from l 8 at h
+pub no-rows : (first second rows : List ℕ) → length rows < 8 → rows_in first second rows ≡ []
+unfolding rows_at
+no-rows first second rows h = let e : length rows / 8 ≡ 0 = omega arith in rw e
 
 -- an event ends where no attribute follows
-first_kind : (first second l : List ℕ) (n : ℕ) → ends (rows_at first second (suc n) l) ≡ not (eqb (get_or l 0 0) 15)
-unfolding ends rows_at row_at
-first_kind first second l n = refl
+pub ends-none : (rows : List ℕ) → length rows < 8 → (first second : List ℕ) → ends (rows_in first second rows) ≡ true
+unfolding ends
+ends-none rows h first second = rw (no-rows first second rows h)
 
-no_rows : (first second l : List ℕ) → ends (rows_at first second 0 l) ≡ true
-unfolding ends rows_at
-no_rows first second l = refl
-
-pub ends_is : (first second rows : List ℕ) (at : ℕ) → at ≤ length rows → ends (rows_in first second (drop at rows)) ≡ ends_at rows at
-unfolding ends_at
-ends_is first second rows at h =
-    by_test (leb (at + 8) (length rows))
-    (λ b.
-    let l : at + 8 ≤ length rows = leb-true (at + 8) (length rows) b in
-    let e : length (drop at rows) / 8 ≡ suc (length (drop at rows) / 8 - 1) = omega (arith, length-drop at rows) in
-    let z : at + 0 ≡ at = omega arith in
-    rw (b, e) (first_kind first second (drop at rows) _ ∙ ap (λ (k : ℕ). not (eqb k 15)) (get_or-drop at rows 0 0 ∙ ap (λ (k : ℕ). get_or rows k 0) z)))
-    (λ b.
-    let l : length rows < at + 8 = leb-false (at + 8) (length rows) b in
-    let e : length (drop at rows) / 8 ≡ 0 = omega (arith, length-drop at rows) in
-    rw (b, e) (no_rows first second (drop at rows)))
-
--- the rows from a place on are the row there and those after it
-pub rows_next : (first second rows : List ℕ) (row : ℕ) → row + 8 ≤ length rows
-    → rows_in first second (drop row rows) ≡ row_at first second (drop row rows) ∷ rows_in first second (drop (row + 8) rows)
-unfolding rows_at
-rows_next first second rows row h =
-    let e : length (drop row rows) / 8 ≡ suc (length (drop (row + 8) rows) / 8) = omega (arith, length-drop row rows, length-drop (row + 8) rows) in
-    rw (e, ← drop-drop 8 row rows)
+pub ends-by : (rows : List ℕ) → 8 ≤ length rows → (first second : List ℕ) → ends (rows_in first second rows) ≡ not (eqb (get_or rows 0 0) 15)
+unfolding ends row_at
+ends-by rows h first second = rw (rows-next first second rows h, get_or-take 8 rows 0 0 (omega arith))
 
 -- ---- places past the room
 
@@ -101,43 +65,67 @@ cap-rows room (r ∷ rs) x y ok e =
 
 -- ---- a row's turn
 
-broken : (wf ok : Bool) → cond wf (cond ok 0 illegal_char) invalid_utf8 ≡ invalid_utf8 → wf ≡ false
+fine : (wf ok : Bool) → 0 ≡ cond wf (cond ok 0 illegal_char) invalid_utf8 → (wf ≡ true) × (ok ≡ true)
+fine true true h = (refl, refl)
+fine true false h = absurd (omega arith)
+fine false ok h = absurd (omega arith)
+
+broken : (wf ok : Bool) → invalid_utf8 ≡ cond wf (cond ok 0 illegal_char) invalid_utf8 → wf ≡ false
 broken true true h = absurd (omega arith)
 broken true false h = absurd (omega arith)
 broken false ok h = refl
 
-whole : (wf ok : Bool) → (cond wf (cond ok 0 illegal_char) invalid_utf8 ≡ invalid_utf8 → ⊥) → (wf ≡ true) × (eqb (cond wf (cond ok 0 illegal_char) invalid_utf8) 0 ≡ ok)
-whole true true h = (refl, refl)
-whole true false h = (refl, refl)
-whole false ok h = absurd (h refl)
+illegal : (wf ok : Bool) → illegal_char ≡ cond wf (cond ok 0 illegal_char) invalid_utf8 → (wf ≡ true) × (ok ≡ false)
+illegal true true h = absurd (omega arith)
+illegal true false h = (refl, refl)
+illegal false ok h = absurd (omega arith)
 
-pub turn-broken : (room at : ℕ) (ok : Bool) (r : Row) (rs : List Row) → row_fault r ≡ invalid_utf8 → rows_refusal room at ok (r ∷ rs) ≡ some (invalid_utf8, 0)
-unfolding rows_refusal row_fault
-turn-broken room at ok r rs h = rw (broken (of_row well_formed r) (of_row legal r) h)
+module _ (r : Row) where
+  pub strings-fine : 0 ≡ row_fault r → (of_row well_formed r ≡ true) × (of_row legal r ≡ true)
+  unfolding row_fault
+  strings-fine h = fine (of_row well_formed r) (of_row legal r) h
 
-module _ (room at at' : ℕ) (ok last : Bool) (r : Row) (rs : List Row) where
-  turn : (row_fault r ≡ invalid_utf8 → ⊥) → ends rs ≡ last → at' ≡ after (room + 1) at (length (row_xml last r))
-      → rows_refusal room at ok (r ∷ rs)
-      ≡ cond last (end_refusal room at' (ok && eqb (row_fault r) 0) before rows_refusal room at' true rs) (rows_refusal room at' (ok && eqb (row_fault r) 0) rs)
-  unfolding rows_refusal row_fault after
-  turn h e p =
-      let w = whole (of_row well_formed r) (of_row legal r) h in
-      let n : ℕ = length (row_xml last r) in
-      let f : min (room + 1) (at + n) ≡ min (room + 1) at' = omega arith in
-      rw (w.1, w.0, e, cap-end room (at + n) at' (ok && of_row legal r) f, cap-rows room rs (at + n) at' true f, cap-rows room rs (at + n) at' (ok && of_row legal r) f)
+  pub strings-broken : invalid_utf8 ≡ row_fault r → of_row well_formed r ≡ false
+  unfolding row_fault
+  strings-broken h = broken (of_row well_formed r) (of_row legal r) h
 
-  pub turn_more : (row_fault r ≡ invalid_utf8 → ⊥) → ends rs ≡ last → at' ≡ after (room + 1) at (length (row_xml last r)) → last ≡ false
-      → rows_refusal room at ok (r ∷ rs) ≡ rows_refusal room at' (ok && eqb (row_fault r) 0) rs
-  turn_more h e p l = turn h e p ∙ rw l
+  pub strings-illegal : illegal_char ≡ row_fault r → (of_row well_formed r ≡ true) × (of_row legal r ≡ false)
+  unfolding row_fault
+  strings-illegal h = illegal (of_row well_formed r) (of_row legal r) h
 
-  pub turn_last : (row_fault r ≡ invalid_utf8 → ⊥) → ends rs ≡ last → at' ≡ after (room + 1) at (length (row_xml last r)) → last ≡ true
-      → rows_refusal room at ok (r ∷ rs) ≡ (end_refusal room at' (ok && eqb (row_fault r) 0) before rows_refusal room at' true rs)
-  turn_last h e p l = turn h e p ∙ rw l
+  pub strings-other : (e : Coded.Refusal) → (e ≡ InvalidUtf8 → ⊥) → (e ≡ InvalidUtf8) ⊎ (e ≡ IllegalChar) → number_of e ≡ row_fault r
+      → (of_row well_formed r ≡ true) × (of_row legal r ≡ false)
+  strings-other e n (inl b) h = absurd (n b)
+  strings-other e n (inr i) h = strings-illegal (rw i at h)
 
--- ---- what an event's end says of the turn of its last row
+module _ (room at : ℕ) (ok : Bool) (r : Row) (rs : List Row) where
+  pub turn-broken : of_row well_formed r ≡ false → rows_refusal room at ok (r ∷ rs) ≡ some (invalid_utf8, 0)
+  unfolding rows_refusal
+  turn-broken h = rw h
 
-pub end-says : (first second rows : List ℕ) (row room : ℕ) (t m : Tally) (u : Turn) → EndSays room m u
-    → left first second rows row room t ≡ (end_refusal room m.at m.legal before rows_refusal room m.at true (rows_in first second (drop (row + 8) rows)))
-    → TurnSays first second rows row room t u
-end-says first second rows row room t m (Turn.Go n) s e = e ∙ rw (s.0, s.1, s.2)
-end-says first second rows row room t m (Turn.Refused number) s e = (e ∙ rw s.0, s.1)
+  module _ (at' : ℕ) (is_legal last : Bool) (wf : of_row well_formed r ≡ true) (lg : of_row legal r ≡ is_legal) (e : ends rs ≡ last)
+      (p : at' ≡ after (room + 1) at (length (row_xml last r))) where
+    turn : rows_refusal room at ok (r ∷ rs)
+        ≡ cond last (end_refusal room at' (ok && is_legal) before rows_refusal room at' true rs) (rows_refusal room at' (ok && is_legal) rs)
+    unfolding rows_refusal after
+    turn =
+        let n : ℕ = length (row_xml last r) in
+        let f : min (room + 1) (at + n) ≡ min (room + 1) at' = omega arith in
+        rw (wf, lg, e, cap-end room (at + n) at' (ok && is_legal) f, cap-rows room rs (at + n) at' true f, cap-rows room rs (at + n) at' (ok && is_legal) f)
+
+    pub turn-more : last ≡ false → rows_refusal room at ok (r ∷ rs) ≡ rows_refusal room at' (ok && is_legal) rs
+    turn-more l = turn ∙ rw l
+
+    pub turn-last : last ≡ true → rows_refusal room at ok (r ∷ rs) ≡ (end_refusal room at' (ok && is_legal) before rows_refusal room at' true rs)
+    turn-last l = turn ∙ rw l
+
+-- what an event's end says of the turn of its last row
+pub end-says : (room : ℕ) (t m : Tally) (r : Row) (rs : List Row) (u : Result Tally Coded.Refusal) → EndSays room m u
+    → rows_refusal room t.at t.legal (r ∷ rs) ≡ (end_refusal room m.at m.legal before rows_refusal room m.at true rs) → TurnSays room t r rs u
+end-says room t m r rs (Ok n) s e = e ∙ rw (s.0, s.1, s.2)
+end-says room t m r rs (Err e) s f = f ∙ rw s
+
+pub err-says : (room : ℕ) (t : Tally) (r : Row) (rs : List Row) (u : Result Tally Coded.Refusal) (e : Coded.Refusal) → IsErrAnd u (λ y. y ≡ e)
+    → rows_refusal room t.at t.legal (r ∷ rs) ≡ refused_by e → TurnSays room t r rs u
+err-says room t r rs (Ok n) e h f = absurd h
+err-says room t r rs (Err y) e h f = f ∙ ap refused_by (sym h)

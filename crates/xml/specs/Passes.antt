@@ -1,31 +1,40 @@
 -- What the contracts of the passes say.
-use Rattle.std.specs.Prelude.{Bool, true, not, cond, List, ◌∷◌, ◌≡◌, ℕ, ◌+◌, leb, eqb, length, get_or, drop}
+use Rattle.std.specs.Prelude.{Bool, true, false, not, List, ◌∷◌, ◌≡◌, ℕ, length, Result, Ok, Err}
 use Rattle.std.proofs.Math.Option.{none, some}
-use Rattle.wire.specs.Token.{attribute}
-use Rattle.event.specs.Row.{row_at}
-use Rattle.writer_spec.specs.Writer.{Refusal, rows_in}
-use Rattle.xml_spec.specs.Rows.{end_refusal, rows_refusal}
+use Rattle.wire.specs.Refusal.{invalid_utf8}
+use Rattle.wire.specs.Answers.{number_of, detail_of}
+use Rattle.wire.specs.declared.Refusal as Coded
+use Rattle.utf8.specs.Utf8.{well_formed}
+use Rattle.event.specs.Row.{Row}
+use Rattle.writer_spec.specs.Writer.{Refusal, ◌before◌, refuse_if}
+use Rattle.xml_spec.specs.Chars.{legal}
+use Rattle.xml_spec.specs.ToXml.{of_row, Left, unless}
+use Rattle.xml_spec.specs.Rows.{row_xml, end_refusal, rows_refusal}
 use Rattle.xml.specs.declared.Tally.{Tally}
-use Rattle.xml.specs.declared.Turn.{Turn}
 
--- no whole row of an attribute stands at a place
-unfoldable pub ends_at : List ℕ → ℕ → Bool
-ends_at rows at = cond (leb (at + 8) (length rows)) (not (eqb (get_or rows at 0) attribute)) true
+abbrev pub refused_by : Coded.Refusal → Refusal
+refused_by r = some (number_of r, detail_of r)
 
--- 0 is no refusal
-unfoldable pub told : ℕ → Refusal
-told number = cond (eqb number 0) none (some (number, 0))
+abbrev pub refusal_of : Result Unit Coded.Refusal → Refusal
+refusal_of (Ok _) = none
+refusal_of (Err r) = refused_by r
+
+-- a row's strings are well-formed, and legal or not; or one is not well-formed
+abbrev pub StringsSay : Row → Result Bool Coded.Refusal → Type 0
+StringsSay r (Ok is_legal) = (of_row well_formed r ≡ true) × (of_row legal r ≡ is_legal)
+StringsSay r (Err e) = (of_row well_formed r ≡ false) × (refused_by e ≡ some (invalid_utf8, 0))
 
 -- an event that ends is refused, or the next begins at its end
-abbrev pub EndSays : ℕ → Tally → Turn → Type 0
-EndSays room t (Turn.Go n) = (end_refusal room t.at t.legal ≡ none) × (n.at ≡ t.at) × (n.legal ≡ true)
-EndSays room t (Turn.Refused number) = (end_refusal room t.at t.legal ≡ some (number, 0)) × (told number ≡ some (number, 0))
+abbrev pub EndSays : ℕ → Tally → Result Tally Coded.Refusal → Type 0
+EndSays room t (Ok n) = (end_refusal room t.at t.legal ≡ none) × (n.at ≡ t.at) × (n.legal ≡ true)
+EndSays room t (Err e) = end_refusal room t.at t.legal ≡ refused_by e
 
 -- a row's turn leaves to the rows after it what was left to it, or is refused
-module _ (first second rows : List ℕ) (row room : ℕ) (t : Tally) where
-  abbrev pub left : Refusal
-  left = rows_refusal room t.at t.legal (row_at first second (drop row rows) ∷ rows_in first second (drop (row + 8) rows))
+abbrev pub TurnSays : ℕ → Tally → Row → List Row → Result Tally Coded.Refusal → Type 0
+TurnSays room t r rs (Ok n) = rows_refusal room t.at t.legal (r ∷ rs) ≡ rows_refusal room n.at n.legal rs
+TurnSays room t r rs (Err e) = rows_refusal room t.at t.legal (r ∷ rs) ≡ refused_by e
 
-  abbrev pub TurnSays : Turn → Type 0
-  TurnSays (Turn.Go n) = left ≡ rows_refusal room n.at n.legal (rows_in first second (drop (row + 8) rows))
-  TurnSays (Turn.Refused number) = (left ≡ some (number, 0)) × (told number ≡ some (number, 0))
+-- the call for a row that forms
+abbrev pub row_alone : Bool → Row → List ℕ → Left
+row_alone last r out =
+    unless (refuse_if (not (of_row well_formed r)) invalid_utf8 before end_refusal (length out) (length (row_xml last r)) (of_row legal r)) out (row_xml last r)

@@ -1,5 +1,5 @@
 -- How many bytes a string takes over its own where its characters are escaped.
-use Rattle.std.specs.Prelude.{Bool, true, false, ◌&&◌, ◌||◌, not, cond, List, [], ◌∷◌, ◌++◌, ◌≡◌, refl, ℕ, ◌+◌, ◌*◌, ◌≤◌, leb, eqb, length, take}
+use Rattle.std.specs.Prelude.{Bool, true, false, ◌&&◌, ◌||◌, not, cond, List, [], ◌∷◌, ◌++◌, ◌≡◌, refl, ℕ, ◌+◌, ◌*◌, ◌≤◌, leb, eqb, length, ◌-◌, take, drop}
 use Rattle.std.proofs.lemmas.Bool.{false≢true}
 use Rattle.std.proofs.Common.{append_assoc, sym, arith, eqb-true, length-append}
 use Rattle.grammar.proofs.Choice.{by_test}
@@ -22,7 +22,7 @@ extras (b ∷ s) = extra b + extras s
 pub record Bare (s : List ℕ) (i j : ℕ) : Type 0 where
   pub from : i ≤ j
   pub inside : j ≤ length s
-  pub none : extras (take j s) ≡ extras (take i s)
+  pub none : extras (take (j - i) (drop i s)) ≡ 0
 
 -- ---- an octet
 

@@ -9,20 +9,18 @@ use borrow.Author.Tests.{lt-ltb, le-ltb, ne_eqb}
 use lib.Dec.{ltb, eqb}
 use lib.ListN.{length, get_or, take, drop, length-append, length-drop}
 use lib.Seq.{take_all}
-use Rattle.utf8.specs.Utf8.{well_formed}
-use Rattle.event.specs.Span.{span}
+use Rattle.event.specs.Span.{span, value_in}
+use Rattle.event.specs.Row as Row
 use Rattle.event.specs.Row.{shape, has_name, value_at, row_at}
 use Rattle.event.specs.declared.Shape.{Shape}
+use Rattle.event.specs.declared.Shape.TheVariants as S
 use Rattle.text.specs.Ascii.{ascii}
 use Rattle.text.specs.Numerals.{numeral}
 use Rattle.text.specs.Put.{after}
 use Rattle.text.specs.PutLaws.{after-after}
-use Rattle.xml_spec.specs.Chars.{legal}
 use Rattle.xml_spec.specs.Xml.{value_xml, attribute_xml, text_of, text_xml}
-use Rattle.xml_spec.specs.ToXml.{of_value}
-use Rattle.xml_spec.specs.Rows.{closing, string_fault, row_xml}
+use Rattle.xml_spec.specs.Rows.{closing, row_xml}
 use Rattle.xml_row.specs.Numbers.{signed_by}
-use Rattle.xml_row.specs.Faults.{fault_by, name_fault, value_fault}
 use Rattle.xml_row.specs.Texts.{marks}
 
 -- ---- places
@@ -80,20 +78,27 @@ module _ (first second w : List ℕ) where
   unfolding row_at
   value_of h e = rw e
 
-  pub value-fault-of : (h : Shape) → shape (get_or w 4 0) ≡ h
-      → value_fault (row_at first second w) ≡ fault_by (of_value well_formed h (value_at first second (get_or w 5 0) (get_or w 6 0) (get_or w 7 0) h)) (of_value legal h (value_at first second (get_or w 5 0) (get_or w 6 0) (get_or w 7 0) h))
-  unfolding row_at value_fault
-  value-fault-of h e = rw e
+  -- the arms of a match on a shape
+  pub no-value : (h : Shape) → ((h ≡ S.Nothing) ⊎ ((h ≡ S.Interned) ⊎ (h ≡ S.Unknown))) → shape (get_or w 4 0) ≡ h → (row_at first second w).value ≡ Row.nothing
+  unfolding row_at value_at
+  no-value h (inl e) s = rw (s ∙ e)
+  no-value h (inr (inl e)) s = rw (s ∙ e)
+  no-value h (inr (inr e)) s = rw (s ∙ e)
+
+  pub bytes-value : (h : Shape) → ((h ≡ S.String) ⊎ (h ≡ S.Blob)) → shape (get_or w 4 0) ≡ h → (row_at first second w).value ≡ Row.bytes (value_in first second w)
+  unfolding row_at value_at
+  bytes-value h (inl e) s = rw (s ∙ e)
+  bytes-value h (inr e) s = rw (s ∙ e)
+
+  pub no-text : (h : Shape) → ((h ≡ S.Nothing) ⊎ ((h ≡ S.Interned) ⊎ ((h ≡ S.Word) ⊎ ((h ≡ S.Pair) ⊎ (h ≡ S.Unknown))))) → shape (get_or w 4 0) ≡ h → text_of (row_at first second w).value ≡ []
+  unfolding row_at value_at
+  no-text h (inl e) s = rw (s ∙ e)
+  no-text h (inr (inl e)) s = rw (s ∙ e)
+  no-text h (inr (inr (inl e))) s = rw (s ∙ e)
+  no-text h (inr (inr (inr (inl e)))) s = rw (s ∙ e)
+  no-text h (inr (inr (inr (inr e)))) s = rw (s ∙ e)
 
   -- ---- names
-
-  pub name-fault-of : has_name (get_or w 0 0) ≡ true → name_fault (row_at first second w) ≡ string_fault (span first second (get_or w 1 0) (get_or w 2 0) (get_or w 3 0))
-  unfolding row_at name_fault fault_by string_fault
-  name-fault-of h = rw h
-
-  pub no-name-fault : has_name (get_or w 0 0) ≡ false → name_fault (row_at first second w) ≡ 0
-  unfolding row_at name_fault fault_by
-  no-name-fault h = rw h
 
   pub attribute-of : has_name (get_or w 0 0) ≡ true
       → attribute_xml (row_at first second w)
@@ -144,7 +149,7 @@ module _ (first second w : List ℕ) where
       tests : (k : ℕ) → k ≡ 15 → (ltb k 2 ≡ false) × (eqb k 2 ≡ false) × (eqb k 3 ≡ false) × (eqb k 15 ≡ true)
       tests k e = rw e (refl, refl, refl, refl)
 
-  pub row-text : (last : Bool) → 2 ≤ get_or w 0 0 → (get_or w 0 0 ≡ 2 → ⊥) → (get_or w 0 0 ≡ 3 → ⊥) → (get_or w 0 0 ≡ 15 → ⊥)
+  pub row-text : (last : Bool) → 3 < get_or w 0 0 → (get_or w 0 0 ≡ 15 → ⊥)
       → row_xml last (row_at first second w) ≡ text_xml (get_or w 0 0) (text_of (row_at first second w).value)
   unfolding row_at row_xml
-  row-text last a b c d = rw (le-ltb (get_or w 0 0) 2 a, ne_eqb (get_or w 0 0) 2 b, ne_eqb (get_or w 0 0) 3 c, ne_eqb (get_or w 0 0) 15 d)
+  row-text last a d = rw (le-ltb (get_or w 0 0) 2 (omega arith), ne_eqb (get_or w 0 0) 2 (omega arith), ne_eqb (get_or w 0 0) 3 (omega arith), ne_eqb (get_or w 0 0) 15 d)

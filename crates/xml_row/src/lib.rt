@@ -4,13 +4,15 @@
 
 mod values;
 
-ghost use Rattle.std.specs.Prelude.{true, [], ◌∷◌, ◌++◌, ◌≡◌, length, get_or};
+ghost use Rattle.std.specs.Prelude.{true, [], ◌∷◌, ◌++◌, ◌≡◌, ◌⊎◌, length, get_or, IfErr};
+ghost use Rattle.wire.specs.declared.Refusal.TheVariants.{InvalidUtf8, IllegalChar};
 ghost use Rattle.event.specs.Span.{span};
 ghost use Rattle.event.specs.Row.{row_at, has_name};
 ghost use Rattle.text.specs.Put.{after, Put};
 ghost use Rattle.xml_spec.specs.Xml.{text_of, text_xml, attribute_xml};
 ghost use Rattle.xml_spec.specs.Rows.{closing, row_fault, row_xml};
-ghost use Rattle.xml_row.specs.Faults.{worse, name_fault, value_fault};
+ghost use Rattle.xml_chars.specs.Answers.{fault_of};
+ghost use Rattle.xml_row.specs.Faults.{name_fault, value_fault};
 ghost use Rattle.xml_row.specs.Texts.{marks};
 
 use event::Shape;
@@ -25,48 +27,39 @@ fn name_in<'a>(first: &'a [u8], second: &'a [u8], w: &[u32; 8]) -> &'a [u8]
 
 // ---- what is wrong with strings
 
-// Of two faults the one that counts: 7 before 20.
-fn worse(a: u32, b: u32) -> u32
-    ensures { result ≡ worse a b }
-{
-    if a == Refusal::INVALID_UTF8 {
-        return a;
-    }
-    if b == 0 {
-        return a;
-    }
-    b
-}
-
-fn name_fault<'a>(first: &'a [u8], second: &'a [u8], w: &[u32; 8]) -> u32
-    ensures { result ≡ name_fault (row_at first.now second.now w.now) }
+fn name_fault<'a>(first: &'a [u8], second: &'a [u8], w: &[u32; 8]) -> Result<(), Refusal>
+    ensures fault { fault_of result ≡ name_fault (row_at first.now second.now w.now) }
+    ensures refusal { IfErr result (λ r. (r ≡ InvalidUtf8) ⊎ (r ≡ IllegalChar)) }
 {
     if event::has_name(w[0]) {
         return xml_chars::fault(name_in(first, second, w));
     }
-    0
+    Ok(())
 }
 
 // Blobs are no strings.
-fn value_fault<'a>(first: &'a [u8], second: &'a [u8], w: &[u32; 8]) -> u32
-    ensures { result ≡ value_fault (row_at first.now second.now w.now) }
+fn value_fault<'a>(first: &'a [u8], second: &'a [u8], w: &[u32; 8]) -> Result<(), Refusal>
+    ensures fault { fault_of result ≡ value_fault (row_at first.now second.now w.now) }
+    ensures refusal { IfErr result (λ r. (r ≡ InvalidUtf8) ⊎ (r ≡ IllegalChar)) }
 {
     match event::shape_of(w[4]) {
-        Shape::Nothing => 0,
         Shape::String => xml_chars::fault(values::value_in(first, second, w)),
-        Shape::Interned => 0,
-        Shape::Blob => 0,
-        Shape::Word => 0,
-        Shape::Pair => 0,
-        Shape::Unknown => 0,
+        _ => Ok(()),
     }
 }
 
-// What is wrong with a row's strings: 0, or 7 for any of them, or 20 for any.
-pub fn fault<'a>(first: &'a [u8], second: &'a [u8], w: &[u32; 8]) -> u32
-    ensures { result ≡ row_fault (row_at first.now second.now w.now) }
+// What is wrong with a row's strings: refusal 7 for any of them, or 20 for any.
+pub fn fault<'a>(first: &'a [u8], second: &'a [u8], w: &[u32; 8]) -> Result<(), Refusal>
+    ensures fault { fault_of result ≡ row_fault (row_at first.now second.now w.now) }
+    ensures refusal { IfErr result (λ r. (r ≡ InvalidUtf8) ⊎ (r ≡ IllegalChar)) }
 {
-    worse(name_fault(first, second, w), value_fault(first, second, w))
+    match name_fault(first, second, w) {
+        Ok(()) => value_fault(first, second, w),
+        Err(fault) => match fault {
+            Refusal::InvalidUtf8 => Err(fault),
+            _ => value_fault(first, second, w).and(Err(fault)),
+        },
+    }
 }
 
 // ---- texts
@@ -76,38 +69,36 @@ fn text_in<'a>(first: &'a [u8], second: &'a [u8], w: &[u32; 8]) -> &'a [u8]
     ensures { result.now ≡ text_of (row_at first.now second.now w.now).value }
 {
     match event::shape_of(w[4]) {
-        Shape::Nothing => &first[..0],
-        Shape::String => values::value_in(first, second, w),
-        Shape::Interned => &first[..0],
-        Shape::Blob => values::value_in(first, second, w),
-        Shape::Word => &first[..0],
-        Shape::Pair => &first[..0],
-        Shape::Unknown => &first[..0],
+        Shape::String | Shape::Blob => values::value_in(first, second, w),
+        Shape::Nothing | Shape::Interned | Shape::Word | Shape::Pair | Shape::Unknown => {
+            &first[..0]
+        }
     }
 }
 
 // How many bytes stand around the string of a text.
+#[tactic(auto, unfolding(crate::specs::Texts::marks))]
 fn marks(kind: u32) -> usize
     ensures { result ≡ marks kind }
 {
-    match kind {
-        Command::TEXT => 0,
-        Command::CDATA => 12,
-        Command::ENTITY_REF => 2,
-        Command::IGNORABLE_WHITESPACE => 0,
-        Command::PROCESSING_INSTRUCTION => 4,
-        Command::COMMENT => 7,
+    match Command::from(kind) {
+        Command::Text | Command::IgnorableWhitespace => 0,
+        Command::Cdata => 12,
+        Command::EntityRef => 2,
+        Command::ProcessingInstruction => 4,
+        Command::Comment => 7,
         _ => 11,
     }
 }
 
+#[tactic(auto, unfolding(xml_spec::specs::Xml::text_xml))]
 fn text_end(kind: u32, s: &[u8], limit: usize, at: usize) -> usize
     ensures { result ≡ after limit at (length (text_xml kind s.now)) }
 {
-    if kind == Command::TEXT {
-        return xml_escape::escaped_end(s, limit, at);
+    match Command::from(kind) {
+        Command::Text => xml_escape::escaped_end(s, limit, at),
+        _ => text::after(limit, text::after(limit, at, s.len()), marks(kind)),
     }
-    text::after(limit, text::after(limit, at, s.len()), marks(kind))
 }
 
 fn put_between(before: &[u8], s: &[u8], after: &[u8], out: &mut [u8], at: usize) -> usize
@@ -118,16 +109,17 @@ fn put_between(before: &[u8], s: &[u8], after: &[u8], out: &mut [u8], at: usize)
     text::put(after, out, end)
 }
 
+#[tactic(auto, unfolding(xml_spec::specs::Xml::text_xml))]
 fn put_text(kind: u32, s: &[u8], out: &mut [u8], at: usize) -> usize
     ensures { Put out.old at (text_xml kind s.now) out.new result }
 {
-    match kind {
-        Command::TEXT => xml_escape::put_escaped(s, out, at),
-        Command::CDATA => put_between(b"<![CDATA[", s, b"]]>", out, at),
-        Command::ENTITY_REF => put_between(b"&", s, b";", out, at),
-        Command::IGNORABLE_WHITESPACE => text::put(s, out, at),
-        Command::PROCESSING_INSTRUCTION => put_between(b"<?", s, b"?>", out, at),
-        Command::COMMENT => put_between(b"<!--", s, b"-->", out, at),
+    match Command::from(kind) {
+        Command::Text => xml_escape::put_escaped(s, out, at),
+        Command::Cdata => put_between(b"<![CDATA[", s, b"]]>", out, at),
+        Command::EntityRef => put_between(b"&", s, b";", out, at),
+        Command::IgnorableWhitespace => text::put(s, out, at),
+        Command::ProcessingInstruction => put_between(b"<?", s, b"?>", out, at),
+        Command::Comment => put_between(b"<!--", s, b"-->", out, at),
         _ => put_between(b"<!DOCTYPE ", s, b">", out, at),
     }
 }
@@ -207,22 +199,22 @@ pub fn end<'a>(
     ensures { result ≡ after limit at (length (row_xml last (row_at first.now second.now w.now))) }
 {
     let kind = w[0];
-    if kind < Command::START_TAG {
-        return text::after(limit, at, 0);
+    match Command::from(kind) {
+        Command::StartDocument | Command::EndDocument => text::after(limit, at, 0),
+        Command::StartTag => {
+            let name = text::after(limit, at, name_in(first, second, w).len());
+            closing_end(last, limit, text::after(limit, name, 1))
+        }
+        Command::EndTag => {
+            let name = text::after(limit, at, name_in(first, second, w).len());
+            text::after(limit, name, 3)
+        }
+        Command::Attribute => {
+            let attribute = attribute_end(first, second, w, limit, at);
+            closing_end(last, limit, attribute)
+        }
+        _ => text_end(kind, text_in(first, second, w), limit, at),
     }
-    if kind == Command::START_TAG {
-        let name = text::after(limit, at, name_in(first, second, w).len());
-        return closing_end(last, limit, text::after(limit, name, 1));
-    }
-    if kind == Command::END_TAG {
-        let name = text::after(limit, at, name_in(first, second, w).len());
-        return text::after(limit, name, 3);
-    }
-    if kind == Command::ATTRIBUTE {
-        let attribute = attribute_end(first, second, w, limit, at);
-        return closing_end(last, limit, attribute);
-    }
-    text_end(kind, text_in(first, second, w), limit, at)
 }
 
 // Puts a row's text; the place after it.
@@ -237,22 +229,22 @@ pub fn put<'a>(
     ensures { Put out.old at (row_xml last (row_at first.now second.now w.now)) out.new result }
 {
     let kind = w[0];
-    if kind < Command::START_TAG {
-        return text::after(out.len(), at, 0);
+    match Command::from(kind) {
+        Command::StartDocument | Command::EndDocument => text::after(out.len(), at, 0),
+        Command::StartTag => {
+            let start = text::put_byte(b'<', out, at);
+            let end = text::put(name_in(first, second, w), out, start);
+            put_closing(last, out, end)
+        }
+        Command::EndTag => {
+            let start = put_two(b'<', b'/', out, at);
+            let end = text::put(name_in(first, second, w), out, start);
+            text::put_byte(b'>', out, end)
+        }
+        Command::Attribute => {
+            let end = put_attribute(first, second, w, out, at);
+            put_closing(last, out, end)
+        }
+        _ => put_text(kind, text_in(first, second, w), out, at),
     }
-    if kind == Command::START_TAG {
-        let start = text::put_byte(b'<', out, at);
-        let end = text::put(name_in(first, second, w), out, start);
-        return put_closing(last, out, end);
-    }
-    if kind == Command::END_TAG {
-        let start = put_two(b'<', b'/', out, at);
-        let end = text::put(name_in(first, second, w), out, start);
-        return text::put_byte(b'>', out, end);
-    }
-    if kind == Command::ATTRIBUTE {
-        let end = put_attribute(first, second, w, out, at);
-        return put_closing(last, out, end);
-    }
-    put_text(kind, text_in(first, second, w), out, at)
 }

@@ -88,28 +88,27 @@ fn put_signed(hexadecimal: bool, n: Signed, out: &mut [u8], at: usize) -> usize
 
 // ---- booleans and null
 
+#[tactic(auto, unfolding(xml_spec::specs::Xml::value_xml))]
 fn mark_end(type_: u32, limit: usize, at: usize) -> usize
     ensures { result ≡ after limit at (length (value_xml type_ Row.nothing)) }
 {
-    if type_ == Type::BOOLEAN_TRUE {
-        return text::after(limit, at, 4);
-    }
-    if type_ == Type::BOOLEAN_FALSE {
-        return text::after(limit, at, 5);
-    }
-    text::after(limit, at, 0)
+    let len = match Type::from(type_) {
+        Type::BooleanTrue => 4,
+        Type::BooleanFalse => 5,
+        _ => 0,
+    };
+    text::after(limit, at, len)
 }
 
+#[tactic(auto, unfolding(xml_spec::specs::Xml::value_xml))]
 fn put_mark(type_: u32, out: &mut [u8], at: usize) -> usize
     ensures { Put out.old at (value_xml type_ Row.nothing) out.new result }
 {
-    if type_ == Type::BOOLEAN_TRUE {
-        return text::put(b"true", out, at);
+    match Type::from(type_) {
+        Type::BooleanTrue => text::put(b"true", out, at),
+        Type::BooleanFalse => text::put(b"false", out, at),
+        _ => text::after(out.len(), at, 0),
     }
-    if type_ == Type::BOOLEAN_FALSE {
-        return text::put(b"false", out, at);
-    }
-    text::after(out.len(), at, 0)
 }
 
 // ---- strings and blobs
@@ -124,79 +123,75 @@ fn base64_end(n: usize, limit: usize, at: usize) -> usize
     text::after(limit, text::after(limit, half, groups), groups)
 }
 
+#[tactic(auto, unfolding(xml_spec::specs::Xml::value_xml))]
 fn bytes_end(type_: u32, s: &[u8], limit: usize, at: usize) -> usize
     ensures { result ≡ after limit at (length (value_xml type_ (Row.bytes s.now))) }
 {
-    if type_ == Type::BYTES_HEX {
-        return text::after(limit, text::after(limit, at, s.len()), s.len());
+    match Type::from(type_) {
+        Type::BytesHex => text::after(limit, text::after(limit, at, s.len()), s.len()),
+        Type::BytesBase64 => base64_end(s.len(), limit, at),
+        _ => xml_escape::escaped_end(s, limit, at),
     }
-    if type_ == Type::BYTES_BASE64 {
-        return base64_end(s.len(), limit, at);
-    }
-    xml_escape::escaped_end(s, limit, at)
 }
 
+#[tactic(auto, unfolding(xml_spec::specs::Xml::value_xml))]
 fn put_bytes(type_: u32, s: &[u8], out: &mut [u8], at: usize) -> usize
     ensures { Put out.old at (value_xml type_ (Row.bytes s.now)) out.new result }
 {
-    if type_ == Type::BYTES_HEX {
-        return text::put_hex(s, out, at);
+    match Type::from(type_) {
+        Type::BytesHex => text::put_hex(s, out, at),
+        Type::BytesBase64 => text::put_base64(s, out, at),
+        _ => xml_escape::put_escaped(s, out, at),
     }
-    if type_ == Type::BYTES_BASE64 {
-        return text::put_base64(s, out, at);
-    }
-    xml_escape::put_escaped(s, out, at)
 }
 
 // ---- 32 and 64 bits
 
+#[tactic(auto, unfolding(xml_spec::specs::Xml::value_xml))]
 fn word_end(type_: u32, b: u32, limit: usize, at: usize) -> usize
     ensures { result ≡ after limit at (length (value_xml type_ (Row.word b))) }
 {
-    if type_ == Type::INT {
-        return signed_end(false, signed_word(b), limit, at);
+    match Type::from(type_) {
+        Type::Int => signed_end(false, signed_word(b), limit, at),
+        Type::IntHex => signed_end(true, signed_word(b), limit, at),
+        _ => text::after(limit, at, 8),
     }
-    if type_ == Type::INT_HEX {
-        return signed_end(true, signed_word(b), limit, at);
-    }
-    text::after(limit, at, 8)
 }
 
+#[tactic(auto, unfolding(xml_spec::specs::Xml::value_xml))]
 fn put_word(type_: u32, b: u32, out: &mut [u8], at: usize) -> usize
     ensures { Put out.old at (value_xml type_ (Row.word b)) out.new result }
 {
-    if type_ == Type::INT {
-        return put_signed(false, signed_word(b), out, at);
+    match Type::from(type_) {
+        Type::Int => put_signed(false, signed_word(b), out, at),
+        Type::IntHex => put_signed(true, signed_word(b), out, at),
+        _ => text::put_hex(&text::word(b), out, at),
     }
-    if type_ == Type::INT_HEX {
-        return put_signed(true, signed_word(b), out, at);
-    }
-    text::put_hex(&text::word(b), out, at)
 }
 
+#[tactic(auto, unfolding(xml_spec::specs::Xml::value_xml))]
 fn pair_end(type_: u32, a: u32, b: u32, limit: usize, at: usize) -> usize
     ensures { result ≡ after limit at (length (value_xml type_ (Row.pair a b))) }
 {
-    if type_ == Type::LONG {
-        return signed_end(false, signed_pair(a, b), limit, at);
+    match Type::from(type_) {
+        Type::Long => signed_end(false, signed_pair(a, b), limit, at),
+        Type::LongHex => signed_end(true, signed_pair(a, b), limit, at),
+        _ => text::after(limit, at, 16),
     }
-    if type_ == Type::LONG_HEX {
-        return signed_end(true, signed_pair(a, b), limit, at);
-    }
-    text::after(limit, at, 16)
 }
 
+#[tactic(auto, unfolding(xml_spec::specs::Xml::value_xml))]
 fn put_pair(type_: u32, a: u32, b: u32, out: &mut [u8], at: usize) -> usize
     ensures { Put out.old at (value_xml type_ (Row.pair a b)) out.new result }
 {
-    if type_ == Type::LONG {
-        return put_signed(false, signed_pair(a, b), out, at);
+    match Type::from(type_) {
+        Type::Long => put_signed(false, signed_pair(a, b), out, at),
+        Type::LongHex => put_signed(true, signed_pair(a, b), out, at),
+        _ => {
+            let half = text::put_hex(&text::word(a), out, at);
+            text::put_hex(&text::word(b), out, half)
+        }
     }
-    if type_ == Type::LONG_HEX {
-        return put_signed(true, signed_pair(a, b), out, at);
-    }
-    let half = text::put_hex(&text::word(a), out, at);
-    text::put_hex(&text::word(b), out, half)
 }
 
 // ---- values
@@ -220,13 +215,10 @@ pub(crate) fn value_end<'a>(
 {
     let type_ = w[4];
     match event::shape_of(type_) {
-        Shape::Nothing => mark_end(type_, limit, at),
-        Shape::String => bytes_end(type_, value_in(first, second, w), limit, at),
-        Shape::Interned => mark_end(type_, limit, at),
-        Shape::Blob => bytes_end(type_, value_in(first, second, w), limit, at),
+        Shape::Nothing | Shape::Interned | Shape::Unknown => mark_end(type_, limit, at),
+        Shape::String | Shape::Blob => bytes_end(type_, value_in(first, second, w), limit, at),
         Shape::Word => word_end(type_, w[7], limit, at),
         Shape::Pair => pair_end(type_, w[6], w[7], limit, at),
-        Shape::Unknown => mark_end(type_, limit, at),
     }
 }
 
@@ -241,12 +233,9 @@ pub(crate) fn put_value<'a>(
 {
     let type_ = w[4];
     match event::shape_of(type_) {
-        Shape::Nothing => put_mark(type_, out, at),
-        Shape::String => put_bytes(type_, value_in(first, second, w), out, at),
-        Shape::Interned => put_mark(type_, out, at),
-        Shape::Blob => put_bytes(type_, value_in(first, second, w), out, at),
+        Shape::Nothing | Shape::Interned | Shape::Unknown => put_mark(type_, out, at),
+        Shape::String | Shape::Blob => put_bytes(type_, value_in(first, second, w), out, at),
         Shape::Word => put_word(type_, w[7], out, at),
         Shape::Pair => put_pair(type_, w[6], w[7], out, at),
-        Shape::Unknown => put_mark(type_, out, at),
     }
 }

@@ -1,4 +1,4 @@
-use mathlib.Core.Path.{ap, ◌∙◌}
+use Rattle.std.proofs.Common.{ap, ◌∙◌}
 use Rattle.nesting_spec.specs.Nesting.{Answer}
 use Rattle.abx_words.specs.Words.{answered, nesting_words}
 use Rattle.abx.proofs.abx_nested.Goals as goal

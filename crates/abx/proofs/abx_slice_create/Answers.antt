@@ -1,4 +1,4 @@
-use mathlib.Core.Path.{ap, ◌∙◌}
+use Rattle.std.proofs.Common.{ap, ◌∙◌}
 use Rattle.slice_spec.specs.Slice.{Created}
 use Rattle.abx_words.specs.Words.{answered, created_words}
 use Rattle.abx.proofs.abx_slice_create.Goals as goal

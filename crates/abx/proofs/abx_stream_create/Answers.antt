@@ -1,4 +1,4 @@
-use mathlib.Core.Path.{ap, ◌∙◌}
+use Rattle.std.proofs.Common.{ap, ◌∙◌}
 use Rattle.stream_spec.specs.Stream.{Created}
 use Rattle.abx_words.specs.Words.{answered, opened, open_state, open_words}
 use Rattle.abx.proofs.abx_stream_create.Goals as goal

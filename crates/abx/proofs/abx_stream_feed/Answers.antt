@@ -1,4 +1,4 @@
-use mathlib.Core.Path.{ap, ◌∙◌}
+use Rattle.std.proofs.Common.{ap, ◌∙◌}
 use Rattle.stream_spec.specs.Stream.{Stream, feed}
 use Rattle.stream.specs.Answers.{lend}
 use Rattle.abx.proofs.Left.{fed-lends, stream-left}

@@ -7,13 +7,13 @@ overflow_add-result c =
     let a = c.args in
     let part = length-take (length a.out.now - a.at) (drop a.at a.out.now) in
     let left = length-drop a.at a.out.now in
-    let fits = line-within a.first.now a.second.now a.rows.now a.row (take (length a.out.now - a.at) (drop a.at a.out.now)) _ _ c.in-Line.len c.line.ensures c.in-Line.is in
+    let fits = line-within a.first.now a.second.now a.rows.now a.row (take (length a.out.now - a.at) (drop a.at a.out.now)) _ _ c.in-Ok.len c.line.ensures c.in-Ok.is in
     omega (arith, part, left, fits)
 
-pub returns-in-Line : goal.returns-in-Line
-returns-in-Line c =
+pub returns-in-Ok : goal.returns-in-Ok
+returns-in-Ok c =
     let a = c.args in
     let part = length-take (length a.out.now - a.at) (drop a.at a.out.now) in
     let left = length-drop a.at a.out.now in
-    let fits = line-within a.first.now a.second.now a.rows.now a.row (take (length a.out.now - a.at) (drop a.at a.out.now)) _ _ c.in-Line.len c.line.ensures c.in-Line.is in
+    let fits = line-within a.first.now a.second.now a.rows.now a.row (take (length a.out.now - a.at) (drop a.at a.out.now)) _ _ c.in-Ok.len c.line.ensures c.in-Ok.is in
     omega (arith, part, left, fits)

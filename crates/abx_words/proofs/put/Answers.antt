@@ -1,22 +1,15 @@
+use Rattle.std.proofs.Common.{refl, ◌≤◌, length, le-leb}
+use Rattle.std.proofs.lemmas.Bool.{lt-leb}
+use Rattle.std.proofs.lemmas.List.Edits.{sets-eq}
 use Rattle.abx_words.specs.Words.{answered}
-use borrow.Author.Tests.{le-leb, lt-leb}
-use native.Mathlib.Omega.{arith}
-use lib.ListN.{length-set}
 use Rattle.abx_words.proofs.put.Goals as goal
 
-pub bounds-answer-1 : goal.bounds-answer-1
-bounds-answer-1 c = simp length-set (omega arith)
-
-pub bounds-answer-2 : goal.bounds-answer-2
-bounds-answer-2 c = simp length-set (omega arith)
-
-pub bounds-answer-3 : goal.bounds-answer-3
-bounds-answer-3 c = simp length-set (omega arith)
-
-pub returns-then-answer-ge4 : goal.returns-then-answer-ge4
+pub returns-in-Some : goal.returns-in-Some
 unfolding answered
-returns-then-answer-ge4 c = rw (le-leb _ _ c.if-answer-ge4.true)
+returns-in-Some c =
+    let room : 4 ≤ length c.args.answer.now = c.in-Some.ensures.variant.0 refl in
+    rw (le-leb 4 _ room, sets-eq _ c.args.answer.now 0 room)
 
-pub returns-else-answer-ge4 : goal.returns-else-answer-ge4
+pub returns-in_default : goal.returns-in_default
 unfolding answered
-returns-else-answer-ge4 c = rw (lt-leb _ _ c.if-answer-ge4.false)
+returns-in_default c = rw (lt-leb 4 _ c.in_default.ensures.cases)

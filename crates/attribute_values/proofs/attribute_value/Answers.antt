@@ -1,19 +1,26 @@
-use Rattle.attribute_values.specs.Value.{row_value}
-use mathlib.Core.Path.{◌∙◌, ap}
-use Prim.Native.Nat.{◌*◌, ◌-◌}
-use native.Mathlib.Omega.{arith}
-use lib.ListN.{length, drop, length-drop}
-use lib.Seq.{take_all}
-use Rattle.attribute_values.specs.Value.{attribute_value}
-use borrow.Author.Tests.{lt-ltb, le-ltb}
+use Rattle.std.proofs.Common.{◌≡◌, ap, ◌∙◌, List, ℕ, take, arith, lt-ltb}
+use Rattle.event.proofs.Rows.{row-found, word-of-eight, attribute-of-eight}
+use Rattle.attribute_values.specs.Value.{row_value, attribute_value}
 use Rattle.attribute_values.proofs.attribute_value.Goals as goal
 
-pub returns-then-row-rows : goal.returns-then-row-rows
-unfolding attribute_value
-returns-then-row-rows c =
-    let a = c.args in
-    rw (lt-ltb _ _ c.if-row-rows.true) (c.row_value.ensures ∙ ap row_value (take_all (length a.rows.now - a.row * 8) (drop (a.row * 8) a.rows.now) (omega (arith, length-drop (a.row * 8) a.rows.now))))
+-- a row's value is that of its eight words
+value-of-eight : (w : List ℕ) → row_value (take 8 w) ≡ row_value w
+unfolding row_value
+value-of-eight w =
+    rw (
+      attribute-of-eight,
+      word-of-eight w 0 (omega arith),
+      word-of-eight w 1 (omega arith),
+      word-of-eight w 4 (omega arith),
+      word-of-eight w 5 (omega arith),
+      word-of-eight w 6 (omega arith),
+      word-of-eight w 7 (omega arith),
+    )
 
 pub returns : goal.returns
 unfolding attribute_value
-returns c = rw (le-ltb _ _ c.if-row-rows.false) c.not_a_value.ensures
+returns c =
+    let found =
+    row-found c.args.rows.now c.args.row c.in_ok-words.words (rw (c.as_chunks.ensures.front, c.ok_or.ensures.ok_part, c.in_ok-words.was) at c.get.ensures.lookup) (rw c.as_chunks.ensures.front at c.as_chunks.ensures.front_len)
+    in
+    rw (lt-ltb _ _ found.0) (c.row_value.ensures ∙ ap row_value found.1 ∙ value-of-eight _)

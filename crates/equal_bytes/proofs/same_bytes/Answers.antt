@@ -1,14 +1,7 @@
+use Rattle.std.proofs.Common.{List, ◌≡◌, refl, sym, ◌∙◌, ℕ, ◌+◌, ◌≤◌, ◌&&◌, eqb, length, take, drop, arith, eq-eqb, ne_eqb}
 use Rattle.equal_bytes.proofs.Turns.{same-lengths, word-turn}
 use Rattle.event.specs.Span.{same}
 use Rattle.equal_bytes.specs.Word.{word_of, Bytes}
-use borrow.Author.Tests.{eq-eqb, ne_eqb}
-use mathlib.Core.Bool.{◌&&◌}
-use mathlib.Core.List.{List}
-use lib.Dec.{eqb}
-use lib.ListN.{length, take, drop}
-use native.Mathlib.Omega.{arith}
-use mathlib.Core.Path.{◌≡◌, refl, sym, ◌∙◌}
-use Prim.Native.Nat.{ℕ, ◌+◌, ◌≤◌}
 use Rattle.equal_bytes.proofs.same_bytes.Goals as goal
 
 pub returns-then-a-b : goal.returns-then-a-b

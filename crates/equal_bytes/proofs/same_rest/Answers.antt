@@ -1,7 +1,5 @@
+use Rattle.std.proofs.Common.{refl, sym, ◌∙◌, ◌+◌, arith}
 use Rattle.equal_bytes.proofs.Turns.{same-on, same-on-two, same-off, same-last, same_end}
-use native.Mathlib.Omega.{arith}
-use mathlib.Core.Path.{refl, sym, ◌∙◌}
-use Prim.Native.Nat.{◌+◌}
 use Rattle.equal_bytes.proofs.same_rest.Goals as goal
 
 pub loop-i-init : goal.loop-i-init

@@ -1,7 +1,5 @@
+use Rattle.std.proofs.Common.{◌≡◌, ◌-◌, ◌≤◌, length, drop}
 use Rattle.event.specs.Span.{same}
-use lib.ListN.{length, drop}
-use mathlib.Core.Path.{◌≡◌}
-use Prim.Native.Nat.{◌-◌, ◌≤◌}
 use Rattle.equal_bytes.proofs.same_rest.Given as goal
 
 abbrev pub invariant-loop-i : goal.invariant-loop-i

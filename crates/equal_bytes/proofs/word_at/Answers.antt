@@ -1,7 +1,6 @@
-use Rattle.equal_bytes.proofs.Turns.{word-halves}
+use Rattle.std.proofs.Common.{◌∙◌}
+use Rattle.equal_bytes.proofs.Turns.{word-eight}
 use Rattle.equal_bytes.proofs.word_at.Goals as goal
 
 pub returns : goal.returns
-returns c =
-    let a = c.args in
-    rw (c.half_word_at.ensures, c.half_word_at-2.ensures) (word-halves a.s.now a.at c.requires)
+returns c = c.from_le_bytes.ensures ∙ word-eight c.args.s.now c.args.at c.requires

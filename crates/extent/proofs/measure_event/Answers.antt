@@ -1,91 +1,76 @@
-use native.Mathlib.Omega.{arith}
-use mathlib.Core.Path.{refl, sym, ap, ◌∙◌}
-use Prim.Native.Nat.{◌<◌}
-use lib.ListN.{length}
-use Rattle.grammar.specs.Scan.{sound, outcome}
-use Rattle.grammar.proofs.Rows.{command-is, first-empty}
+use Rattle.std.proofs.Common.{ℕ, ◌≡◌, ◌<◌, refl, sym, ap, ◌∙◌, arith}
+use borrow.Author.Tests.{eqb-true, eqb-false}
+use Rattle.grammar.specs.Grammar.{Item}
+use Rattle.grammar.specs.Scan.{outcome}
+use Rattle.grammar.proofs.Rows.{command-is, first-empty, first_kind}
 use Rattle.extent.proofs.Measuring.{as_told, none_yet, whole-unread, first_small, first-within, first-bounded, whole-single, whole-tag}
-use Rattle.grammar.proofs.Rows.{first_kind}
-use Rattle.extent.proofs.Passing.{own_read, own-unread, own-bytes, own-counts}
+use Rattle.extent.specs.Answers.{sound_of}
+use Rattle.extent.specs.Past.{name_of_row}
+use Rattle.extent.proofs.Passing.{mapped-unread, unread-is, own_read, own-small, own-counts}
 use Rattle.extent.proofs.measure_event.Goals as goal
 
-pub returns-then-s-eq0 : goal.returns-then-s-eq0
-returns-then-s-eq0 c =
-    let a = c.args in
-    let p = c.requires in
-    let ok = sound a.pool.kept a.table.now a.pool.stored in
-    c.told.ensures ∙ ap (as_told (none_yet a.pool)) c.ran_out.ensures ∙ whole-unread a.finished a.s.now a.table.now a.pool _ (first-empty ok a.pool.names a.s.now c.if-s-eq0.true) tt
+not-none : (n : ℕ) → (n ≡ 0 → ⊥) → 0 < n
+not-none n h = omega arith
 
-pub past_own-own-requires : goal.past_own-own-requires
-past_own-own-requires c =
+pub returns-then-is_empty : goal.returns-then-is_empty
+returns-then-is_empty c =
     let a = c.args in
-    let p = c.requires in
-    let ok = sound a.pool.kept a.table.now a.pool.stored in
-    let some : 0 < length a.s.now = omega (arith, c.if-s-eq0.false) in
-    let kind = command-is a.tokens.now _ _ p.tokens_value (omega (arith, c.type_inv.s 0)) c.new-command.ensures in
-    record { s_nonzero = (some, kind); tokens_value = p.tokens_value; kept_in_bounds = p.kept_in_bounds }
+    let ok = sound_of a.pool.now in
+    let none = eqb-true _ _ (sym c.is_empty.ensures ∙ c.if-is_empty.true) in
+    c.told.ensures ∙ ap (as_told (none_yet a.names)) c.ended.ensures ∙ whole-unread a.finished a.s.now ok a.names _ (first-empty ok a.names a.s.now none) tt
 
-pub own_fault-fault-requires : goal.own_fault-fault-requires
-own_fault-fault-requires c =
+pub own_at-requires-clause-s_nonzero : goal.own_at-requires-clause-s_nonzero
+own_at-requires-clause-s_nonzero c =
     let a = c.args in
     let p = c.requires in
-    let ok = sound a.pool.kept a.table.now a.pool.stored in
-    let some : 0 < length a.s.now = omega (arith, c.if-s-eq0.false) in
-    let kind = command-is a.tokens.now _ _ p.tokens_value (omega (arith, c.type_inv.s 0)) c.new-command.ensures in
-    record { s_nonzero = (some, kind); kept_in_bounds = p.kept_in_bounds; unread = own-unread ok a.pool.names a.s.now some _ kind _ c.past_own-own.ensures c.if-own-eq0.true }
+    (not-none _ (eqb-false _ _ (sym c.is_empty.ensures ∙ c.if-is_empty.false)), (command-is a.tokens.now _ _ p.tokens_value (omega (arith, c.type_inv.s 0)) (c.number-kind.ensures ∙ c.new.ensures.number)))
 
-pub returns-then-own-eq0 : goal.returns-then-own-eq0
-returns-then-own-eq0 c =
+pub returns-in-Err : goal.returns-in-Err
+returns-in-Err c =
     let a = c.args in
-    let p = c.requires in
-    let ok = sound a.pool.kept a.table.now a.pool.stored in
-    let some : 0 < length a.s.now = omega (arith, c.if-s-eq0.false) in
-    let kind = command-is a.tokens.now _ _ p.tokens_value (omega (arith, c.type_inv.s 0)) c.new-command.ensures in
-    c.told-then-own-eq0.ensures ∙ ap (as_told (none_yet a.pool)) c.own_fault-fault.ensures ∙ whole-unread a.finished a.s.now a.table.now a.pool _ refl (own-unread ok a.pool.names a.s.now some _ kind _ c.past_own-own.ensures c.if-own-eq0.true)
+    let ok = sound_of a.pool.now in
+    c.told-in-Err.ensures ∙ ap (as_told (none_yet a.names)) c.ended-in-Err.ensures
+    ∙ whole-unread a.finished a.s.now ok a.names _ (mapped-unread name_of_row _ c.in-Err.refusal c.in-Err.ensures) (unread-is Item c.in-Err.refusal)
 
-pub with_past-named-requires : goal.with_past-named-requires
-with_past-named-requires c =
+pub with-named-requires-clause-name_small : goal.with-named-requires-clause-name_small
+with-named-requires-clause-name_small c =
     let a = c.args in
     let p = c.requires in
-    let ok = sound a.pool.kept a.table.now a.pool.stored in
-    let some : 0 < length a.s.now = omega (arith, c.if-s-eq0.false) in
-    let kind = command-is a.tokens.now _ _ p.tokens_value (omega (arith, c.type_inv.s 0)) c.new-command.ensures in
-    let own = own_read ok a.pool.names a.s.now some _ kind _ c.past_own-own.ensures (omega (arith, c.if-own-eq0.false)) in
-    record { small = record { added-small = omega arith; bytes_small = omega arith }; bytes_le_max_store = own-bytes ok a.pool.names a.s.now some _ kind _ c.past_own-own.ensures (omega (arith, c.if-own-eq0.false)) (first_small a.finished a.s.now a.table.now a.pool _ _ own.is p.s_len_bound) }
+    let ok = sound_of a.pool.now in
+    let some = not-none _ (eqb-false _ _ (sym c.is_empty.ensures ∙ c.if-is_empty.false)) in
+    let own = own_read ok a.names a.s.now some _ (command-is a.tokens.now _ _ p.tokens_value (omega (arith, c.type_inv.s 0)) (c.number-kind.ensures ∙ c.new.ensures.number)) _ _ c.in-Ok.ensures in
+    own-small ok a.names a.s.now some _ (command-is a.tokens.now _ _ p.tokens_value (omega (arith, c.type_inv.s 0)) (c.number-kind.ensures ∙ c.new.ensures.number)) _ _ c.in-Ok.ensures (first_small a.finished a.s.now ok a.names _ _ own.is p.s_len_bound)
 
 pub measure_rest-requires : goal.measure_rest-requires
 measure_rest-requires c =
     let a = c.args in
     let p = c.requires in
-    let ok = sound a.pool.kept a.table.now a.pool.stored in
-    let some : 0 < length a.s.now = omega (arith, c.if-s-eq0.false) in
-    let kind = command-is a.tokens.now _ _ p.tokens_value (omega (arith, c.type_inv.s 0)) c.new-command.ensures in
-    let own = own_read ok a.pool.names a.s.now some _ kind _ c.past_own-own.ensures (omega (arith, c.if-own-eq0.false)) in
-    let u = c.with_past-named.result in
-    let n = own-counts ok a.pool.names a.s.now some _ kind _ c.past_own-own.ensures (omega (arith, c.if-own-eq0.false)) (none_yet a.pool) u c.with_past-named.ensures.none c.with_past-named.ensures.one (record { pool = u.pool; rows = 1; added = u.added; bytes = u.bytes }) refl refl refl refl in
-    record { from_in_bounds = (first-within a.finished a.s.now a.table.now a.pool _ _ own.is p.s_len_bound, p.s_len_bound); tokens_value = p.tokens_value; kept_in_bounds = rw n.kept-stays p.kept_in_bounds; bounded = first-bounded a.finished a.s.now a.table.now a.pool _ _ own.is p.s_len_bound _ n }
+    let ok = sound_of a.pool.now in
+    let some = not-none _ (eqb-false _ _ (sym c.is_empty.ensures ∙ c.if-is_empty.false)) in
+    let own = own_read ok a.names a.s.now some _ (command-is a.tokens.now _ _ p.tokens_value (omega (arith, c.type_inv.s 0)) (c.number-kind.ensures ∙ c.new.ensures.number)) _ _ c.in-Ok.ensures in
+    let u = c.with-named.result in
+    let n = own-counts ok a.names a.s.now some _ (command-is a.tokens.now _ _ p.tokens_value (omega (arith, c.type_inv.s 0)) (c.number-kind.ensures ∙ c.new.ensures.number)) _ _ c.in-Ok.ensures (none_yet a.names) u c.with-named.ensures (record { names = u.names; rows = 1; added = u.added; bytes = u.bytes }) refl refl refl refl in
+    record { from_in_bounds = (first-within a.finished a.s.now ok a.names _ _ own.is p.s_len_bound, p.s_len_bound); tokens_value = p.tokens_value; bounded = first-bounded a.finished a.s.now ok a.names _ _ own.is p.s_len_bound _ n }
 
 pub returns-then-kind-eq-START_TAG : goal.returns-then-kind-eq-START_TAG
 returns-then-kind-eq-START_TAG c =
     let a = c.args in
     let p = c.requires in
-    let ok = sound a.pool.kept a.table.now a.pool.stored in
-    let some : 0 < length a.s.now = omega (arith, c.if-s-eq0.false) in
-    let kind = command-is a.tokens.now _ _ p.tokens_value (omega (arith, c.type_inv.s 0)) c.new-command.ensures in
-    let own = own_read ok a.pool.names a.s.now some _ kind _ c.past_own-own.ensures (omega (arith, c.if-own-eq0.false)) in
-    let u = c.with_past-named.result in
-    let n = own-counts ok a.pool.names a.s.now some _ kind _ c.past_own-own.ensures (omega (arith, c.if-own-eq0.false)) (none_yet a.pool) u c.with_past-named.ensures.none c.with_past-named.ensures.one (record { pool = u.pool; rows = 1; added = u.added; bytes = u.bytes }) refl refl refl refl in
-    c.measure_rest.ensures ∙ whole-tag a.finished a.s.now a.table.now a.pool _ _ own.is p.s_len_bound _ n (first_kind ok a.pool.names a.s.now some _ kind _ _ own.is ∙ c.if-kind-eq-START_TAG.true)
+    let ok = sound_of a.pool.now in
+    let some = not-none _ (eqb-false _ _ (sym c.is_empty.ensures ∙ c.if-is_empty.false)) in
+    let own = own_read ok a.names a.s.now some _ (command-is a.tokens.now _ _ p.tokens_value (omega (arith, c.type_inv.s 0)) (c.number-kind.ensures ∙ c.new.ensures.number)) _ _ c.in-Ok.ensures in
+    let u = c.with-named.result in
+    let n = own-counts ok a.names a.s.now some _ (command-is a.tokens.now _ _ p.tokens_value (omega (arith, c.type_inv.s 0)) (c.number-kind.ensures ∙ c.new.ensures.number)) _ _ c.in-Ok.ensures (none_yet a.names) u c.with-named.ensures (record { names = u.names; rows = 1; added = u.added; bytes = u.bytes }) refl refl refl refl in
+    c.measure_rest.ensures ∙ whole-tag a.finished a.s.now ok a.names _ _ own.is p.s_len_bound _ n (first_kind ok a.names a.s.now some _ (command-is a.tokens.now _ _ p.tokens_value (omega (arith, c.type_inv.s 0)) (c.number-kind.ensures ∙ c.new.ensures.number)) _ _ own.is ∙ c.if-kind-eq-START_TAG.true)
 
 pub returns : goal.returns
 unfolding outcome
 returns c =
     let a = c.args in
     let p = c.requires in
-    let ok = sound a.pool.kept a.table.now a.pool.stored in
-    let some : 0 < length a.s.now = omega (arith, c.if-s-eq0.false) in
-    let kind = command-is a.tokens.now _ _ p.tokens_value (omega (arith, c.type_inv.s 0)) c.new-command.ensures in
-    let own = own_read ok a.pool.names a.s.now some _ kind _ c.past_own-own.ensures (omega (arith, c.if-own-eq0.false)) in
-    let u = c.with_past-named.result in
-    let n = own-counts ok a.pool.names a.s.now some _ kind _ c.past_own-own.ensures (omega (arith, c.if-own-eq0.false)) (none_yet a.pool) u c.with_past-named.ensures.none c.with_past-named.ensures.one (record { pool = u.pool; rows = 1; added = u.added; bytes = u.bytes }) refl refl refl refl in
-    c.told-2.ensures ∙ whole-single a.finished a.s.now a.table.now a.pool _ _ own.is p.s_len_bound _ n (λ k. c.if-kind-eq-START_TAG.false (sym (first_kind ok a.pool.names a.s.now some _ kind _ _ own.is) ∙ k))
+    let ok = sound_of a.pool.now in
+    let some = not-none _ (eqb-false _ _ (sym c.is_empty.ensures ∙ c.if-is_empty.false)) in
+    let own = own_read ok a.names a.s.now some _ (command-is a.tokens.now _ _ p.tokens_value (omega (arith, c.type_inv.s 0)) (c.number-kind.ensures ∙ c.new.ensures.number)) _ _ c.in-Ok.ensures in
+    let u = c.with-named.result in
+    let n = own-counts ok a.names a.s.now some _ (command-is a.tokens.now _ _ p.tokens_value (omega (arith, c.type_inv.s 0)) (c.number-kind.ensures ∙ c.new.ensures.number)) _ _ c.in-Ok.ensures (none_yet a.names) u c.with-named.ensures (record { names = u.names; rows = 1; added = u.added; bytes = u.bytes }) refl refl refl refl in
+    c.told-2.ensures ∙ whole-single a.finished a.s.now ok a.names _ _ own.is p.s_len_bound _ n (λ k. c.if-kind-eq-START_TAG.false (sym (first_kind ok a.names a.s.now some _ (command-is a.tokens.now _ _ p.tokens_value (omega (arith, c.type_inv.s 0)) (c.number-kind.ensures ∙ c.new.ensures.number)) _ _ own.is) ∙ k))

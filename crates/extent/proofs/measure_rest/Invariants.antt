@@ -1,6 +1,4 @@
-use mathlib.Core.Path.{◌≡◌}
-use Prim.Native.Nat.{◌-◌, ◌≤◌}
-use lib.ListN.{length}
+use Rattle.std.proofs.Common.{◌-◌, ◌≤◌, length}
 use Rattle.grammar.specs.Turn.{rest}
 use Rattle.extent.specs.Answers.{sound_of}
 use Rattle.extent.specs.Tally.{Bounded}
@@ -9,8 +7,8 @@ use Rattle.extent.proofs.measure_rest.Given as goal
 
 abbrev pub invariant-loop-at : goal.invariant-loop-at
 invariant-loop-at l =
-    (l.at ≤ length l.s) × Bounded l.at l.tally × (l.tally.pool.kept ≡ l.initial.tally.pool.kept)
-    × Measuring l.finished l.s (sound_of l.initial.tally.pool l.table) l.table (Remains l.finished l.s l.table l.initial.tally l.initial.at) (rest (sound_of l.initial.tally.pool l.table) l.s l.tally.pool.names l.at) l.tally
+    (l.at ≤ length l.s) × Bounded l.at l.tally
+    × Measuring l.finished l.s (Remains l.finished l.s (sound_of l.pool) l.initial.tally l.initial.at) (rest (sound_of l.pool) l.s l.tally.names l.at) l.tally
 
 abbrev pub decreases-loop-at : goal.decreases-loop-at
 decreases-loop-at l = length l.s - l.at

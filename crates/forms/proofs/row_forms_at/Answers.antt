@@ -1,18 +1,19 @@
-use mathlib.Core.Path.{◌∙◌}
-use Prim.Native.Nat.{◌+◌, ◌-◌, ◌*◌}
-use native.Mathlib.Omega.{arith}
-use borrow.Author.Tests.{lt-ltb, le-ltb}
+use Rattle.std.proofs.Common.{◌≡◌, ◌∙◌, ◌*◌, ◌/◌, length, lt-ltb, le-ltb, arith}
+use Rattle.event.proofs.Rows.{row-found, forms-of-eight}
 use Rattle.forms.specs.Placed.{row_forms_at}
-use Rattle.forms.proofs.OneRow.{one-row}
+use Rattle.forms.proofs.Rows.{inside-same}
 use Rattle.forms.proofs.row_forms_at.Goals as goal
 
-pub returns-then-row-rows : goal.returns-then-row-rows
+pub returns-in-Some : goal.returns-in-Some
 unfolding row_forms_at
-returns-then-row-rows c =
+returns-in-Some c =
     let a = c.args in
-    rw (lt-ltb _ _ c.if-row-rows.true, ← c.inside_at.ensures)
-    (c.rows_form.ensures ∙ one-row a.first.now a.second.now c.inside_at.result a.rows.now (8 * a.row) (8 * a.row + 8 - 8 * a.row) (omega arith) (omega arith))
+    let w = a.rows.now in
+    let found = row-found w a.row c.in-Some.words (rw c.as_chunks.ensures.front at c.in-Some.ensures.lookup) (rw c.as_chunks.ensures.front at c.as_chunks.ensures.front_len) in
+    let inside = (rw c.as_chunks.ensures.front at c.inside_at.ensures) ∙ inside-same w (length w / 8) a.row found.0 in
+    let place : a.row * 8 ≡ 8 * a.row = omega arith in
+    rw (lt-ltb _ _ found.0) (c.row_forms_in.ensures ∙ rw (inside, found.1, forms-of-eight, place))
 
-pub returns : goal.returns
+pub returns-in-None : goal.returns-in-None
 unfolding row_forms_at
-returns c = rw (le-ltb _ _ c.if-row-rows.false)
+returns-in-None c = rw (le-ltb c.args.row (length c.args.rows.now / 8) (omega (arith, c.as_chunks.ensures.front_len, c.in-None.ensures.lookup)))

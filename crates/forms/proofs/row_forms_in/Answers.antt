@@ -1,19 +1,30 @@
-use mathlib.Core.Path.{◌∙◌}
-use native.Mathlib.Omega.{arith}
-use Rattle.forms.proofs.ByKind.{attribute-forms, document-forms, tag-forms, text-forms, other-forms}
+use Rattle.std.proofs.Common.{◌∙◌, arith}
+use Rattle.std.proofs.Math.Bool.{and_assoc}
+use Rattle.forms.proofs.ByKind.{document-forms, tag-forms, text-forms}
+use Rattle.forms.proofs.Rows.{zeros_of_part}
 use Rattle.forms.proofs.row_forms_in.Goals as goal
 
-pub returns-then-kind-eq-ATTRIBUTE : goal.returns-then-kind-eq-ATTRIBUTE
-returns-then-kind-eq-ATTRIBUTE c = rw (c.attribute_forms.ensures, c.span_in-named.ensures, c.span_in-valued.ensures) (attribute-forms c.args.first.now c.args.second.now c.args.inside c.args.w.now c.if-kind-eq-ATTRIBUTE.true)
+pub returns-in-0 : goal.returns-in-0
+returns-in-0 c =
+    let a = c.args in
+    c.unused.ensures ∙ zeros_of_part a.row.now 1 7 (omega arith) ∙ document-forms a.stores.first.now a.stores.second.now a.inside a.row.now (omega arith)
 
-pub returns-then-kind-lt-START_TAG : goal.returns-then-kind-lt-START_TAG
-returns-then-kind-lt-START_TAG c = c.unused.ensures ∙ document-forms c.args.first.now c.args.second.now c.args.inside c.args.w.now c.if-kind-lt-START_TAG.true
+pub returns-in-2 : goal.returns-in-2
+returns-in-2 c =
+    let a = c.args in
+    rw (c.span_in.ensures, c.of_name-in-2.ensures.source, c.of_name-in-2.ensures.start, c.of_name-in-2.ensures.len, c.unused-in-2.ensures, zeros_of_part a.row.now 4 4 (omega arith))
+    (tag-forms a.stores.first.now a.stores.second.now a.inside a.row.now (omega arith) (omega arith))
 
-pub returns-then-kind-lt-TEXT : goal.returns-then-kind-lt-TEXT
-returns-then-kind-lt-TEXT c = rw (c.span_in.ensures, c.unused-then-kind-lt-TEXT.ensures) (tag-forms c.args.first.now c.args.second.now c.args.inside c.args.w.now (omega arith) c.if-kind-lt-TEXT.true)
-
-pub returns-then-kind-le-DOC_DECL : goal.returns-then-kind-le-DOC_DECL
-returns-then-kind-le-DOC_DECL c = rw (c.span_in-valued-then-kind-le-DOC_DECL.ensures, c.unused-then-kind-le-DOC_DECL.ensures) (text-forms c.args.first.now c.args.second.now c.args.inside c.args.w.now (omega arith) c.if-kind-le-DOC_DECL.true)
-
-pub returns : goal.returns
-returns c = other-forms c.args.first.now c.args.second.now c.args.inside c.args.w.now (omega arith) c.if-kind-eq-ATTRIBUTE.false
+pub returns-in-4-to-10 : goal.returns-in-4-to-10
+returns-in-4-to-10 c =
+    let a = c.args in
+    rw (
+      and_assoc,
+      c.span_in-valued-in-4-to-10.ensures,
+      c.of_value-in-4-to-10.ensures.source,
+      c.of_value-in-4-to-10.ensures.start,
+      c.of_value-in-4-to-10.ensures.len,
+      c.unused-in-4-to-10.ensures,
+      zeros_of_part a.row.now 1 3 (omega arith),
+    )
+    (text-forms a.stores.first.now a.stores.second.now a.inside a.row.now (omega arith) (omega arith))

@@ -1,11 +1,6 @@
-use mathlib.Core.Bool.{◌&&◌}
-use mathlib.Core.Path.{◌≡◌}
-use Prim.Native.Nat.{◌+◌, ◌-◌, ◌≤◌}
+use Rattle.std.proofs.Common.{◌≡◌, ◌&&◌, ◌-◌, length}
 use Rattle.event.specs.Words.{zeros}
 use Rattle.forms.proofs.unused.Given as goal
 
-abbrev pub invariant-loop-k : goal.invariant-loop-k
-invariant-loop-k l = (l.k ≤ l.n) × ((l.all && zeros l.w (l.at + l.k) (l.n - l.k)) ≡ zeros l.w l.at l.n)
-
-abbrev pub decreases-loop-k : goal.decreases-loop-k
-decreases-loop-k l = l.n - l.k
+abbrev pub invariant-loop-word : goal.invariant-loop-word
+invariant-loop-word l = (l.all && zeros l.words l.word-index (length l.words - l.word-index)) ≡ zeros l.words 0 (length l.words)

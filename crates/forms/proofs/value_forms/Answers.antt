@@ -1,11 +1,11 @@
-use mathlib.Core.Path.{◌∙◌}
-use lib.ListN.{get_or}
+use Rattle.std.proofs.Common.{◌∙◌, get_or, arith}
+use Rattle.forms.proofs.Rows.{zeros_of_part}
 use Rattle.forms.proofs.Shapes.{by-type}
 use Rattle.forms.proofs.value_forms.Goals as goal
 
 pub returns : goal.returns
 returns c =
-    let a = c.args in
+    let w = c.args.row.now in
     c.choose.ensures
     ∙ rw (
       c.is_one_of-4.ensures,
@@ -18,5 +18,8 @@ returns c =
       c.choose-none.ensures,
       c.unused.ensures,
       c.is_one_of.ensures,
+      zeros_of_part w 5 3 (omega arith),
+      zeros_of_part w 5 2 (omega arith),
+      zeros_of_part w 5 1 (omega arith),
     )
-    (by-type a.valued a.w.now (get_or a.w.now 4 0))
+    (by-type c.args.valued w (get_or w 4 0))

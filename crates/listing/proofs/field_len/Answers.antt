@@ -1,15 +1,13 @@
-use mathlib.Core.Path.{sym, ap, ◌∙◌}
-use native.Mathlib.Omega.{arith}
-use lib.ListN.{length}
+use Rattle.std.proofs.Common.{sym, ap, ◌∙◌, length}
 use Rattle.text.specs.Laws.{hex-length}
-use Rattle.listing.proofs.Texts.{field-absent, field-empty, field-hex}
+use Rattle.listing.proofs.Texts.{shown-none, shown-empty, shown-hex}
 use Rattle.listing.proofs.field_len.Goals as goal
 
-pub returns-then-s-eq0 : goal.returns-then-s-eq0
-returns-then-s-eq0 c = let a = c.args in sym (ap length (field-empty a.present a.s.now c.if-present.true c.if-s-eq0.true))
+pub returns-in-None : goal.returns-in-None
+returns-in-None c = sym (ap length (shown-none _ c.in-None.is))
 
-pub returns-then-present : goal.returns-then-present
-returns-then-present c = let a = c.args in sym (ap length (field-hex a.present a.s.now c.if-present.true (omega arith)) ∙ hex-length a.s.now)
+pub returns-then-is_empty : goal.returns-then-is_empty
+returns-then-is_empty c = sym (ap length (shown-empty _ _ c.in-Some.is c.if-is_empty.ensures))
 
-pub returns : goal.returns
-returns c = let a = c.args in sym (ap length (field-absent a.present a.s.now c.if-present.false))
+pub returns-else-is_empty : goal.returns-else-is_empty
+returns-else-is_empty c = sym (ap length (shown-hex _ _ c.in-Some.is c.if-is_empty.ensures) ∙ hex-length _)

@@ -1,17 +1,16 @@
-use Prim.Native.Nat.{◌*◌, ◌-◌}
-use native.Mathlib.Omega.{arith}
-use borrow.Author.Tests.{lt-ltb, le-ltb}
-use lib.ListN.{length, drop, length-drop}
-use lib.Seq.{take_all}
-use Rattle.listing.specs.Line.{put_row}
+use Rattle.std.proofs.Common.{ap, ◌∙◌, lt-ltb, ◌*◌, drop}
+use Rattle.event.specs.Laws.{row-of-eight}
+use Rattle.event.specs.Row.{Row, row_at}
+use Rattle.event.proofs.Rows.{row-found}
+use Rattle.listing.specs.Line.{line, put, put_row}
 use Rattle.listing.proofs.line.Goals as goal
-
-pub returns-then-row-rows : goal.returns-then-row-rows
-unfolding put_row
-returns-then-row-rows c =
-    let a = c.args in
-    rw (lt-ltb _ _ c.if-row-rows.true, ← take_all (length a.rows.now - a.row * 8) (drop (a.row * 8) a.rows.now) (omega (arith, length-drop (a.row * 8) a.rows.now))) c.put_row.ensures
 
 pub returns : goal.returns
 unfolding put_row
-returns c = rw (le-ltb _ _ c.if-row-rows.false, c.new.ensures.0, c.new.ensures.1)
+returns c =
+    let f = c.args.first.now in
+    let s = c.args.second.now in
+    let rows = c.args.rows.now in
+    let found = row-found rows c.args.row c.in_ok-w.w (rw (c.as_chunks.ensures.front, c.ok_or.ensures.ok_part, c.in_ok-w.was) at c.get.ensures.lookup) (rw c.as_chunks.ensures.front at c.as_chunks.ensures.front_len) in
+    let same = ap (row_at f s) found.1 ∙ row-of-eight f s (drop (c.args.row * 8) rows) in
+    rw (lt-ltb _ _ found.0) (c.put_row.ensures ∙ ap (λ (r : Row). put (line r) c.args.out.now) same)

@@ -1,16 +1,14 @@
-use mathlib.Core.List.{[], ◌∷◌}
-use native.Mathlib.Omega.{arith}
-use Rattle.text.specs.Numerals.{hex}
+use Rattle.std.proofs.Common.{[], ◌∷◌}
 use Rattle.listing.specs.Text.{dash, equals}
-use Rattle.listing.proofs.Texts.{field-absent, field-empty, field-hex}
+use Rattle.listing.proofs.Texts.{shown-none, shown-empty, shown-hex}
 use Rattle.listing.proofs.Stored.{spaced}
 use Rattle.listing.proofs.put_field.Goals as goal
 
-pub returns-then-s-eq0 : goal.returns-then-s-eq0
-returns-then-s-eq0 c = spaced c.args.out.now _ _ c.args.at _ _ (equals ∷ []) _ c.put_byte-place.ensures c.put_byte.ensures (field-empty c.args.present c.args.s.now c.if-present.true c.if-s-eq0.true)
+pub returns-in-None : goal.returns-in-None
+returns-in-None c = spaced c.args.out.now _ _ c.args.at _ _ (dash ∷ []) _ c.put_byte-place.ensures c.put_byte.ensures (shown-none _ c.in-None.is)
 
-pub returns-then-present : goal.returns-then-present
-returns-then-present c = spaced c.args.out.now _ _ c.args.at _ _ (hex c.args.s.now) _ c.put_byte-place.ensures c.put_hex.ensures (field-hex c.args.present c.args.s.now c.if-present.true (omega arith))
+pub returns-then-is_empty : goal.returns-then-is_empty
+returns-then-is_empty c = spaced c.args.out.now _ _ c.args.at _ _ (equals ∷ []) _ c.put_byte-place.ensures c.put_byte-then-is_empty.ensures (shown-empty _ _ c.in-Some.is c.if-is_empty.ensures)
 
-pub returns : goal.returns
-returns c = spaced c.args.out.now _ _ c.args.at _ _ (dash ∷ []) _ c.put_byte-place.ensures c.put_byte-2.ensures (field-absent c.args.present c.args.s.now c.if-present.false)
+pub returns-else-is_empty : goal.returns-else-is_empty
+returns-else-is_empty c = spaced c.args.out.now _ _ c.args.at _ _ _ _ c.put_byte-place.ensures c.put_hex.ensures (shown-hex _ _ c.in-Some.is c.if-is_empty.ensures)

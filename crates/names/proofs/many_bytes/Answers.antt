@@ -1,13 +1,7 @@
-use native.Mathlib.Omega.{arith}
-use mathlib.Core.Path.{◌≡◌, sym, ◌∙◌}
-use Prim.Native.Nat.{suc, ◌+◌, ◌*◌, ◌-◌, ◌/◌}
-use lib.ListN.{length}
+use Rattle.std.proofs.Common.{◌≡◌, sym, ◌∙◌, suc, ◌+◌, ◌*◌, ◌-◌, ◌/◌, length, arith}
 use Rattle.names.specs.Hash.{many_bytes}
-use Rattle.names.proofs.Hashing.{eights-begin, eights-turn, eights-end}
+use Rattle.names.proofs.Hashing.{eights-turn, eights-end}
 use Rattle.names.proofs.many_bytes.Goals as goal
-
-pub loop-k-init : goal.loop-k-init
-loop-k-init c = (omega arith, eights-begin _ _ _ _)
 
 pub loop-k-preserved : goal.loop-k-preserved
 loop-k-preserved c =
@@ -18,7 +12,7 @@ loop-k-preserved c =
     let next : 8 * l.k + 8 ≡ 8 * (l.k + 1) = omega arith in
     let turn = eights-turn (turns - (l.k + 1)) l.hash n (8 * l.k) in
     let e = rw (c.four_at.ensures, c.four_at-in-loop-k.ensures) at c.mix-hash.ensures in
-    (omega arith, rw e (sym (rw next at turn) ∙ rw left at l.invariant.1))
+    rw e (sym (rw next at turn) ∙ rw left at l.invariant)
 
 pub returns : goal.returns
 unfolding many_bytes
@@ -26,5 +20,5 @@ returns c =
     let n = c.args.name.now in
     let l = c.loop-k in
     let none_left : (length n - 1) / 8 - l.k ≡ 0 = omega arith in
-    let all = sym (eights-end l.hash n (8 * l.k)) ∙ rw none_left at l.invariant.1 in
+    let all = sym (eights-end l.hash n (8 * l.k)) ∙ rw none_left at l.invariant in
     c.mix.ensures ∙ rw (c.four_at-2.ensures, c.four_at-3.ensures, all)

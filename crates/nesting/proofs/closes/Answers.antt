@@ -1,25 +1,31 @@
-use mathlib.Core.Path.{refl, sym, ◌∙◌}
-use native.Mathlib.Omega.{arith}
-use borrow.Author.Tests.{not-true, not-false}
+use Rattle.std.proofs.Common.{List, [], refl, sym, ap, ◌∙◌, ℕ}
+use Rattle.nesting_spec.specs.OnePass.{nested}
+use Rattle.nesting.specs.Reading.{tags}
 use Rattle.nesting.proofs.Walk.{closed-end, closed-turn, closed-last, closed-break}
 use Rattle.nesting.proofs.closes.Goals as goal
 
-pub loop-k-init : goal.loop-k-init
-loop-k-init c = (omega arith, omega arith, λ first second. refl)
+pub loop-row-init : goal.loop-row-init
+loop-row-init c first second = refl
 
-pub loop-k-preserved : goal.loop-k-preserved
-loop-k-preserved c =
-    let may = sym c.stands_outside.ensures ∙ not-false _ c.if-not-stands_outside.false-raw in
-    (omega arith, omega arith, λ first second. c.loop-k.invariant.2 first second ∙ closed-turn first second c.args.rows.now c.loop-k.k (omega arith) may)
-
-pub returns-then-kind-eq-END_DOCUMENT : goal.returns-then-kind-eq-END_DOCUMENT
-returns-then-kind-eq-END_DOCUMENT c first second =
-    closed-last first second c.args.rows.now c.loop-k.k (omega arith) c.if-kind-eq-END_DOCUMENT.true ∙ sym (c.loop-k.invariant.2 first second)
+pub returns-then-row-eq-END_DOCUMENT : goal.returns-then-row-eq-END_DOCUMENT
+returns-then-row-eq-END_DOCUMENT c first second =
+    c.is_empty.ensures
+    ∙ closed-last first second c.in-Some.row.now c.in-Some.after.now c.if-row-eq-END_DOCUMENT.true
+    ∙ sym (c.loop-row.invariant first second ∙ ap (λ (rows : List (List ℕ)). nested (tags first second rows) []) c.in-Some.ensures.cases.0)
 
 pub returns-then-not-stands_outside : goal.returns-then-not-stands_outside
 returns-then-not-stands_outside c first second =
-    let not = sym c.stands_outside.ensures ∙ not-true _ c.if-not-stands_outside.true-raw in
-    sym (c.loop-k.invariant.2 first second ∙ closed-break first second c.args.rows.now c.loop-k.k (omega arith) c.if-kind-eq-END_DOCUMENT.false not)
+    sym (
+    c.loop-row.invariant first second
+    ∙ ap (λ (rows : List (List ℕ)). nested (tags first second rows) []) c.in-Some.ensures.cases.0
+    ∙ closed-break first second c.in-Some.row.now c.in-Some.after.now c.if-row-eq-END_DOCUMENT.false (sym c.stands_outside.ensures ∙ c.if-not-stands_outside.true)
+    )
+
+pub loop-row-preserved : goal.loop-row-preserved
+loop-row-preserved c first second =
+    c.loop-row.invariant first second
+    ∙ ap (λ (rows : List (List ℕ)). nested (tags first second rows) []) c.in-Some.ensures.cases.0
+    ∙ closed-turn first second c.in-Some.row.now c.in-Some.after.now (sym c.stands_outside.ensures ∙ c.if-not-stands_outside.false)
 
 pub returns : goal.returns
-returns c first second = sym (c.loop-k.invariant.2 first second ∙ closed-end first second c.args.rows.now c.loop-k.k (omega arith))
+returns c first second = sym (c.loop-row.invariant first second ∙ closed-end first second c.loop-row.rest.now c.in_default.ensures.cases)

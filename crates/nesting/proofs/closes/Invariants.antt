@@ -1,13 +1,10 @@
-use mathlib.Core.List.{List, []}
-use mathlib.Core.Path.{◌≡◌}
-use Prim.Native.Nat.{ℕ, ◌-◌, ◌≤◌}
+use Rattle.std.proofs.Common.{List, [], ◌≡◌, ℕ, length}
 use Rattle.nesting_spec.specs.OnePass.{nested}
-use Rattle.nesting.specs.Reading.{tags_from}
+use Rattle.nesting.specs.Reading.{tags}
 use Rattle.nesting.proofs.closes.Given as goal
 
-abbrev pub invariant-loop-k : goal.invariant-loop-k
-invariant-loop-k l =
-    (l.at ≤ l.k) × (l.k ≤ l.n) × ((first second : List ℕ) → nested (tags_from first second l.rows l.at) [] ≡ nested (tags_from first second l.rows l.k) [])
+abbrev pub invariant-loop-row : goal.invariant-loop-row
+invariant-loop-row l = (first second : List ℕ) → nested (tags first second l.rows) [] ≡ nested (tags first second l.rest) []
 
-abbrev pub decreases-loop-k : goal.decreases-loop-k
-decreases-loop-k l = l.n - l.k
+abbrev pub decreases-loop-row : goal.decreases-loop-row
+decreases-loop-row l = length l.rest

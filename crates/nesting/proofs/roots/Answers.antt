@@ -1,49 +1,45 @@
-use mathlib.Core.List.{[]}
-use mathlib.Core.Path.{refl, sym, ◌∙◌}
-use native.Mathlib.Omega.{arith}
-use borrow.Author.Tests.{not-true, not-false}
+use Rattle.std.proofs.Common.{List, [], refl, sym, ap, ◌∙◌, ℕ}
+use Rattle.nesting_spec.specs.OnePass.{rooted}
+use Rattle.nesting.specs.Reading.{tags}
 use Rattle.nesting.proofs.Walk.{rooted-end, rooted-turn, rooted-start, rooted-break}
 use Rattle.nesting.proofs.roots.Goals as goal
 
-pub loop-k-init : goal.loop-k-init
-loop-k-init c = (omega arith, omega arith, refl)
+pub returns-in-Some-element : goal.returns-in-Some-element
+returns-in-Some-element c =
+    let s = c.args.stores in
+    c.closes.ensures s.first.now s.second.now
+    ∙ sym (
+    c.loop-row.invariant
+    ∙ ap (λ (rows : List (List ℕ)). rooted (tags s.first.now s.second.now rows)) c.in-Some.ensures.cases.0
+    ∙ rooted-start s.first.now s.second.now c.in-Some.row.now c.in-Some.after.now c.if-row-eq-START_TAG.true
+    ∙ c.in-Some-element.ensures.passes [] refl
+    )
 
-pub element-requires : goal.element-requires
-element-requires c = (omega arith, omega arith, c.if-kind-eq-START_TAG.true)
-
-pub returns-in_default : goal.returns-in_default
-returns-in_default c =
-    let a = c.args in
-    let l = c.loop-k in
-    let start = c.if-kind-eq-START_TAG.true in
-    sym (l.invariant.2 ∙ rooted-start a.first.now a.second.now a.rows.now l.k (omega arith) start ∙ (rw c.in_default.is at c.element.ensures) [] refl)
-
-pub closes-requires : goal.closes-requires
-closes-requires c =
-    let m = rw c.in-Next.is at c.element.ensures in
-    m.ends
-
-pub returns-then-kind-eq-START_TAG : goal.returns-then-kind-eq-START_TAG
-returns-then-kind-eq-START_TAG c =
-    let a = c.args in
-    let m = rw c.in-Next.is at c.element.ensures in
-    c.closes.ensures a.first.now a.second.now
-    ∙ sym (c.loop-k.invariant.2 ∙ rooted-start a.first.now a.second.now a.rows.now c.loop-k.k (omega arith) c.if-kind-eq-START_TAG.true ∙ m.passes [] refl)
+pub returns-in-None : goal.returns-in-None
+returns-in-None c =
+    let s = c.args.stores in
+    sym (
+    c.loop-row.invariant
+    ∙ ap (λ (rows : List (List ℕ)). rooted (tags s.first.now s.second.now rows)) c.in-Some.ensures.cases.0
+    ∙ rooted-start s.first.now s.second.now c.in-Some.row.now c.in-Some.after.now c.if-row-eq-START_TAG.true
+    ∙ c.in-None.ensures [] refl
+    )
 
 pub returns-then-not-stands_outside : goal.returns-then-not-stands_outside
 returns-then-not-stands_outside c =
-    let a = c.args in
-    let l = c.loop-k in
-    sym (l.invariant.2 ∙ rooted-break a.first.now a.second.now a.rows.now l.k (omega arith) c.if-kind-eq-START_TAG.false (sym c.stands_outside.ensures ∙ not-true _ c.if-not-stands_outside.true-raw))
+    let s = c.args.stores in
+    sym (
+    c.loop-row.invariant
+    ∙ ap (λ (rows : List (List ℕ)). rooted (tags s.first.now s.second.now rows)) c.in-Some.ensures.cases.0
+    ∙ rooted-break s.first.now s.second.now c.in-Some.row.now c.in-Some.after.now c.if-row-eq-START_TAG.false (sym c.stands_outside.ensures ∙ c.if-not-stands_outside.true)
+    )
 
-pub loop-k-preserved : goal.loop-k-preserved
-loop-k-preserved c =
-    let a = c.args in
-    let l = c.loop-k in
-    (omega arith, omega arith, l.invariant.2 ∙ rooted-turn a.first.now a.second.now a.rows.now l.k (omega arith) (sym c.stands_outside.ensures ∙ not-false _ c.if-not-stands_outside.false-raw))
+pub loop-row-preserved : goal.loop-row-preserved
+loop-row-preserved c =
+    let s = c.args.stores in
+    c.loop-row.invariant
+    ∙ ap (λ (rows : List (List ℕ)). rooted (tags s.first.now s.second.now rows)) c.in-Some.ensures.cases.0
+    ∙ rooted-turn s.first.now s.second.now c.in-Some.row.now c.in-Some.after.now (sym c.stands_outside.ensures ∙ c.if-not-stands_outside.false)
 
 pub returns : goal.returns
-returns c =
-    let a = c.args in
-    let l = c.loop-k in
-    sym (l.invariant.2 ∙ rooted-end a.first.now a.second.now a.rows.now l.k (omega arith))
+returns c = sym (c.loop-row.invariant ∙ rooted-end c.args.stores.first.now c.args.stores.second.now c.loop-row.rest.now c.in_default.ensures.cases)

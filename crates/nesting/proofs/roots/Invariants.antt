@@ -1,11 +1,10 @@
-use mathlib.Core.Path.{◌≡◌}
-use Prim.Native.Nat.{◌-◌, ◌≤◌}
+use Rattle.std.proofs.Common.{◌≡◌, length}
 use Rattle.nesting_spec.specs.OnePass.{rooted}
-use Rattle.nesting.specs.Reading.{tags_from}
+use Rattle.nesting.specs.Reading.{tags}
 use Rattle.nesting.proofs.roots.Given as goal
 
-abbrev pub invariant-loop-k : goal.invariant-loop-k
-invariant-loop-k l = (l.at ≤ l.k) × (l.k ≤ l.n) × (rooted (tags_from l.first l.second l.rows l.at) ≡ rooted (tags_from l.first l.second l.rows l.k))
+abbrev pub invariant-loop-row : goal.invariant-loop-row
+invariant-loop-row l = rooted (tags l.stores.first.now l.stores.second.now l.rows) ≡ rooted (tags l.stores.first.now l.stores.second.now l.rest)
 
-abbrev pub decreases-loop-k : goal.decreases-loop-k
-decreases-loop-k l = l.n - l.k
+abbrev pub decreases-loop-row : goal.decreases-loop-row
+decreases-loop-row l = length l.rest

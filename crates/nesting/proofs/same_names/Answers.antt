@@ -1,12 +1,13 @@
-use mathlib.Core.Path.{sym, ◌∙◌, ap₂}
-use Rattle.event.specs.Span.{same}
-use Rattle.nesting.proofs.Walk.{spans-names}
+use Rattle.std.proofs.Common.{sym, ◌∙◌, eqb-true}
+use Rattle.event.specs.Laws.{both}
+use Rattle.nesting.proofs.Walk.{equal-spans}
 use Rattle.nesting.proofs.same_names.Goals as goal
 
-pub returns-then-same_spans : goal.returns-then-same_spans
-returns-then-same_spans c =
+pub returns-then-eq : goal.returns-then-eq
+returns-then-eq c =
     let a = c.args in
-    sym (spans-names a.first.now a.second.now a.rows.now a.i a.j (sym c.same_spans.ensures ∙ c.if-same_spans.true))
-
-pub returns : goal.returns
-returns c = c.same_bytes.ensures ∙ ap₂ same c.name_at.ensures c.name_at-2.ensures
+    let equal = rw (c.of_name-a.ensures.source, c.of_name-a.ensures.start, c.of_name-a.ensures.len, c.of_name-b.ensures.source, c.of_name-b.ensures.start, c.of_name-b.ensures.len) at c.eq.ensures in
+    let one = both _ _ (sym equal ∙ c.if-eq.true) in
+    let two = both _ _ one.1 in
+    c.if-eq.true
+    ∙ sym (equal-spans a.stores.first.now a.stores.second.now a.a.now a.b.now (eqb-true _ _ one.0) (eqb-true _ _ two.0) (eqb-true _ _ two.1))

@@ -1,29 +1,16 @@
-use Prim.Native.Nat.{◌+◌, ◌*◌}
-use native.Mathlib.Omega.{arith}
+use Rattle.std.proofs.Common.{◌≡◌, ◌+◌, ◌-◌, length, arith}
+use borrow.Author.Tests.{le-ltb}
+use Rattle.grammar.specs.Reader.{got}
+use Rattle.grammar.specs.Grammar.{u16}
 use Rattle.quick.proofs.Flats.{in-store, known-flat}
 use Rattle.grammar.specs.Scan.{sound}
 use Rattle.quick.proofs.known.Goals as goal
 
-pub returns-then-index : goal.returns-then-index
-returns-then-index c = λ h. absurd (omega (arith, c.declined.ensures))
-
-pub returns-then-names-index : goal.returns-then-names-index
-returns-then-names-index c = λ h. absurd (omega (arith, c.declined-then-names-index.ensures))
-
-pub overflow_cast-start : goal.overflow_cast-start
-overflow_cast-start c = omega (arith, c.type_inv.table (2 * c.field-index.result))
-
-pub overflow_cast-len : goal.overflow_cast-len
-overflow_cast-len c = omega (arith, c.type_inv.table (2 * c.field-index.result + 1))
-
-pub overflow_add-start : goal.overflow_add-start
-overflow_add-start c = omega (arith, c.type_inv.table (2 * c.field-index.result), c.type_inv.table (2 * c.field-index.result + 1))
-
-pub returns-then-pool-start : goal.returns-then-pool-start
-returns-then-pool-start c = λ h. absurd (omega (arith, c.declined-then-pool-start.ensures))
-
 pub returns : goal.returns
+unfolding u16
 returns c =
     let a = c.args in
-    let ok = sound a.pool.names a.table.now a.pool.stored in
-    λ h. known-flat ok a.pool.names a.s.now a.at a.source a.table.now _ c.field-index.ensures.0 c.if-index.false (omega arith) (in-store a.pool.names a.table.now a.pool.stored _ (omega arith) (omega (arith, c.if-pool-start.false)))
+    let ok = sound a.pool.now.names a.pool.now.table.now a.pool.now.stored in
+    let index = c.from_be_bytes-index.result in
+    let e : u16 a.s.now a.at ≡ got index (a.at + 2) = rw (le-ltb (length a.s.now - a.at) 2 (omega arith), ← c.from_be_bytes-index.ensures) in
+    known-flat ok a.pool.now.names a.s.now a.at a.pool.now.source a.pool.now.table.now _ e c.if-index.false (omega arith) (in-store a.pool.now.names a.pool.now.table.now a.pool.now.stored _ (omega arith) (omega arith))

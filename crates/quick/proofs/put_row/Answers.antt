@@ -1,6 +1,6 @@
 use Rattle.grammar.proofs.Stores.{put-turn}
-use native.Mathlib.Omega.{arith}
-use lib.ListN.{length-set}
+use Rattle.std.proofs.Common.{arith}
+use Rattle.std.proofs.Math.ListN.{length-set}
 use Rattle.quick.proofs.put_row.Goals as goal
 
 pub bounds-rows-to-2 : goal.bounds-rows-to-2

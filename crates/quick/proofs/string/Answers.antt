@@ -1,15 +1,9 @@
-use native.Mathlib.Omega.{arith}
+use Rattle.std.proofs.Common.{sym, ◌∙◌}
 use Rattle.quick.proofs.Flats.{string-flat}
-use mathlib.Core.Path.{sym, ◌∙◌}
 use Rattle.quick.proofs.string.Goals as goal
 
-pub returns-then-s-start : goal.returns-then-s-start
-returns-then-s-start c = λ h. absurd (omega (arith, c.declined.ensures))
-
-pub returns-then-is_utf8_part : goal.returns-then-is_utf8_part
-returns-then-is_utf8_part c =
-    let a = c.args in
-    λ h. string-flat a.s.now a.at a.base _ c.field-len.ensures.0 (omega arith) (sym c.is_utf8_part.ensures ∙ c.if-is_utf8_part.true)
-
 pub returns : goal.returns
-returns c = λ h. absurd (omega (arith, c.declined-2.ensures))
+returns c =
+    let a = c.args in
+    let e = c.in_ok-len.ensures in
+    string-flat a.s.now a.at a.base c.in_ok-len.len e.0 e.1.0 (sym c.is_utf8_part.ensures ∙ c.if-not-is_utf8_part.false)

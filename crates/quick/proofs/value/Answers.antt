@@ -1,11 +1,7 @@
-use native.Mathlib.Omega.{arith}
-use mathlib.Core.Path.{ap, ◌∙◌}
-use Prim.Native.Nat.{ℕ}
-use mathlib.Core.List.{List}
-use lib.ListN.{get_or}
+use Rattle.std.proofs.Common.{ap, ◌∙◌, arith, ℕ, List, get_or}
 use Rattle.event.specs.Row.{shapes, shape}
 use Rattle.grammar.specs.Scan.{sound}
-use Rattle.quick.proofs.Flats.{count-of, count_small, number-value, string-value, blob-value, known-value}
+use Rattle.quick.proofs.Flats.{count-of, count_small, shape-blob, some-map, number-value, string-value, blob-value, known-value}
 use Rattle.quick.proofs.value.Goals as goal
 
 pub overflow_cast-count-2 : goal.overflow_cast-count-2
@@ -20,31 +16,22 @@ returns-then-count-lt3 c =
     let a = c.args in
     let p = c.requires in
     let e = ap (λ (l : List ℕ). get_or l a.type_ 0) p.counts_value ∙ count-of a.type_ p.type_bound in
-    λ h. number-value (sound a.pool.names a.table.now a.pool.stored) a.pool.names a.type_ a.s.now a.at a.source a.base a.table.now _ _ e c.if-count-lt3.true p.at_in_bounds.0 c.number.ensures
+    number-value (sound a.pool.now.names a.pool.now.table.now a.pool.now.stored) a.pool.now.names a.type_ a.s.now a.at a.pool.now.source a.base a.pool.now.table.now _ _ e c.if-count-lt3.true p.at_in_bounds.0 c.number.ensures
 
-pub returns-then-type_-eq-STRING : goal.returns-then-type_-eq-STRING
+pub returns-in-2 : goal.returns-in-2
 unfolding shape shapes
-returns-then-type_-eq-STRING c =
+returns-in-2 c =
     let a = c.args in
-    λ h. string-value (sound a.pool.names a.table.now a.pool.stored) a.pool.names a.type_ a.s.now a.at a.source a.base a.table.now _ (ap shape c.if-type_-eq-STRING.true) (c.string.ensures h)
+    some-map c.string.result (λ p. string-value (sound a.pool.now.names a.pool.now.table.now a.pool.now.stored) a.pool.now.names a.type_ a.s.now a.at a.pool.now.source a.base a.pool.now.table.now p.0 p.1 (ap shape c.in-2.is)) c.string.ensures
 
-pub returns-then-type_-eq-STRING_INTERNED : goal.returns-then-type_-eq-STRING_INTERNED
+pub returns-in_ok-known-in-3 : goal.returns-in_ok-known-in-3
 unfolding shape shapes
-returns-then-type_-eq-STRING_INTERNED c =
+returns-in_ok-known-in-3 c =
     let a = c.args in
-    λ h. known-value (sound a.pool.names a.table.now a.pool.stored) a.pool.names a.type_ a.s.now a.at a.source a.base a.table.now _ (ap shape c.if-type_-eq-STRING_INTERNED.true) (c.known.ensures h)
+    known-value (sound a.pool.now.names a.pool.now.table.now a.pool.now.stored) a.pool.now.names a.type_ a.s.now a.at a.pool.now.source a.base a.pool.now.table.now _ (ap shape c.in-3.is) c.in_ok-known-in-3.ensures
 
-pub returns-then-type_-eq-BYTES_HEX : goal.returns-then-type_-eq-BYTES_HEX
-unfolding shape shapes
-returns-then-type_-eq-BYTES_HEX c =
+pub returns-in-4 : goal.returns-in-4
+returns-in-4 c =
     let a = c.args in
-    λ h. blob-value (sound a.pool.names a.table.now a.pool.stored) a.pool.names a.type_ a.s.now a.at a.source a.base a.table.now _ (ap shape c.if-type_-eq-BYTES_HEX.true) (c.blob.ensures h)
-
-pub returns-then-type_-eq-BYTES_BASE64 : goal.returns-then-type_-eq-BYTES_BASE64
-unfolding shape shapes
-returns-then-type_-eq-BYTES_BASE64 c =
-    let a = c.args in
-    λ h. blob-value (sound a.pool.names a.table.now a.pool.stored) a.pool.names a.type_ a.s.now a.at a.source a.base a.table.now _ (ap shape c.if-type_-eq-BYTES_BASE64.true) (c.blob-then-type_-eq-BYTES_BASE64.ensures h)
-
-pub returns : goal.returns
-returns c = λ h. absurd (omega (arith, c.declined.ensures))
+    let e = shape-blob a.type_ (omega arith) (omega arith) in
+    some-map c.blob.result (λ p. blob-value (sound a.pool.now.names a.pool.now.table.now a.pool.now.stored) a.pool.now.names a.type_ a.s.now a.at a.pool.now.source a.base a.pool.now.table.now p.0 p.1 e) c.blob.ensures

@@ -1,20 +1,23 @@
-use mathlib.Core.Path.{sym, ◌∙◌}
+use Rattle.std.proofs.Common.{◌≡◌, Err, arith, rules}
 use Rattle.quick_step.specs.Laws.{first-refused}
 use Rattle.scanner.proofs.Stepping.{step-placed, step-read}
 use Rattle.scanner.proofs.step_read.Goals as goal
 
-pub returns-then-first-ne0 : goal.returns-then-first-ne0
-returns-then-first-ne0 c =
+pub returns-in_err-stored : goal.returns-in_err-stored
+returns-in_err-stored c =
     let a = c.args in
-    first-refused a.s.now a.base a.finished a.copied a.names a.used a.table.now a.store.now a.rows.now _ _ (c.new.ensures.0 ∙ c.check-first.ensures.refusal) (λ e. c.if-first-ne0.true (sym c.new.ensures.0 ∙ e)) c.new.ensures.1
+    let e : c.from_residual.result ≡ Err c.in_err-stored.field-0.0 = search rules in
+    let f = rw c.in_err-stored.was at c.check.ensures.err in
+    rw e (first-refused a.s.now a.base a.finished a.copied a.names a.used a.table.now a.store.now a.rows.now _ _ f.0 (λ z. omega (arith, f.1.1, z)) f.1.0)
 
 pub read-requires : goal.read-requires
 read-requires c =
     let a = c.args in
-    let e = c.if-first-ne0.false in
-    step-placed a.s.now a.base a.finished a.copied a.names a.used a.table.now a.store.now a.rows.now (sym c.check-first.ensures.refusal ∙ e) _ (c.check-first.ensures.stored e)
+    let f = rw c.in_ok-stored.was at c.check.ensures.ok in
+    step-placed a.s.now a.base a.finished a.copied a.names a.used a.table.now a.store.now a.rows.now f.0 _ f.1
 
 pub returns : goal.returns
 returns c =
     let a = c.args in
-    step-read a.s.now a.base a.finished a.copied a.names a.used a.table.now a.store.now a.rows.now (sym c.check-first.ensures.refusal ∙ c.if-first-ne0.false) _ c.read.ensures
+    let f = rw c.in_ok-stored.was at c.check.ensures.ok in
+    step-read a.s.now a.base a.finished a.copied a.names a.used a.table.now a.store.now a.rows.now f.0 _ c.read.ensures

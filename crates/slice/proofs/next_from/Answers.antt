@@ -1,7 +1,4 @@
-use mathlib.Core.List.{List}
-use mathlib.Core.Path.{ap, ◌∙◌}
-use Prim.Native.Nat.{ℕ}
-use native.Mathlib.Omega.{arith}
+use Rattle.std.proofs.Common.{List, ℕ, ap, ◌∙◌, arith}
 use Rattle.slice_spec.specs.Slice.{next_from}
 use Rattle.slice.specs.Answers.{place_of}
 use Rattle.slice.proofs.Onward.{quick-sums, quick-goes}
@@ -10,17 +7,14 @@ use Rattle.slice.proofs.next_from.Goals as goal
 pub overflow_add-result : goal.overflow_add-result
 overflow_add-result c =
     let a = c.args in
-    let f = c.requires in
-    omega (arith, quick-sums (place_of a.place) a.document.now a.pool.now a.rows.now _ _ f c.step_quickly-taken.ensures (omega (arith, c.if-taken-ne0.true)), f.document-small)
+    omega (arith, quick-sums (place_of a.place) a.document.now a.pool.now a.rows.now _ _ c.requires c.in-Some.ensures, c.requires.document-small)
 
-pub returns-then-taken-ne0 : goal.returns-then-taken-ne0
-returns-then-taken-ne0 c =
+pub returns-in-Some : goal.returns-in-Some
+returns-in-Some c =
     let a = c.args in
-    let f = c.requires in
-    quick-goes (place_of a.place) a.document.now a.pool.now a.rows.now _ _ f c.step_quickly-taken.ensures (omega (arith, c.if-taken-ne0.true))
+    quick-goes (place_of a.place) a.document.now a.pool.now a.rows.now _ _ c.requires c.in-Some.ensures
 
-pub returns : goal.returns
-returns c =
+pub returns-in-None : goal.returns-in-None
+returns-in-None c =
     let a = c.args in
-    let p = place_of a.place in
-    c.next_read.ensures ∙ ap (λ (w : List ℕ). next_from p a.document.now a.pool.now w) (c.step_quickly-taken.ensures.declines c.if-taken-ne0.false)
+    c.next_read.ensures ∙ ap (λ (w : List ℕ). next_from (place_of a.place) a.document.now a.pool.now w) c.in-None.ensures

@@ -1,5 +1,4 @@
-use Prim.Native.Nat.{◌-◌}
-use lib.ListN.{length}
+use Rattle.std.proofs.Common.{◌-◌, length}
 use Rattle.scanner.specs.Select.{query_of}
 use Rattle.slice.specs.Answers.{reached_of}
 use Rattle.slice_queries.proofs.Turning.{Walked}

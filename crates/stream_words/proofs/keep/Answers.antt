@@ -1,26 +1,27 @@
-use Rattle.stream_words.proofs.Left.{flag_is}
+use Rattle.std.proofs.Common.{Bool, true, false, cond, ◌≡◌, refl, ◌∙◌, ◌≤◌, length, le-leb}
+use Rattle.std.proofs.lemmas.Bool.{lt-leb}
+use Rattle.std.proofs.lemmas.List.Edits.{sets-eq}
+use mir.Val.{bool_byte}
 use Rattle.abx_words.specs.Words.{stored}
-use borrow.Author.Tests.{le-leb, lt-leb}
-use native.Mathlib.Omega.{arith}
-use lib.ListN.{length-set}
 use Rattle.stream_words.proofs.keep.Goals as goal
 
-pub bounds-state-1 : goal.bounds-state-1
-bounds-state-1 c = simp length-set (omega arith)
+-- a flag's word
+flag_is : (b : Bool) → bool_byte b ≡ cond b 1 0
+flag_is true = refl
+flag_is false = refl
 
-pub bounds-state-2 : goal.bounds-state-2
-bounds-state-2 c = simp length-set (omega arith)
-
-pub bounds-state-3 : goal.bounds-state-3
-bounds-state-3 c = simp length-set (omega arith)
-
-pub bounds-state-4 : goal.bounds-state-4
-bounds-state-4 c = simp length-set (omega arith)
-
-pub returns-then-state-ge-STATE : goal.returns-then-state-ge-STATE
+pub returns-in-Some : goal.returns-in-Some
 unfolding stored
-returns-then-state-ge-STATE c = rw (le-leb _ _ c.if-state-ge-STATE.true, flag_is c.args.stream.header, flag_is c.args.stream.finished)
+returns-in-Some c =
+    let s = c.args.stream in
+    let room : 6 ≤ length c.args.state.now = c.in-Some.ensures.variant.0 refl in
+    rw (
+      le-leb 6 _ room,
+      sets-eq _ c.args.state.now 0 room,
+      c.from.ensures ∙ flag_is s.header,
+      c.from-in-Some.ensures ∙ flag_is s.finished,
+    )
 
-pub returns-else-state-ge-STATE : goal.returns-else-state-ge-STATE
+pub returns-in_default : goal.returns-in_default
 unfolding stored
-returns-else-state-ge-STATE c = rw (lt-leb _ _ c.if-state-ge-STATE.false)
+returns-in_default c = rw (lt-leb 6 _ c.in_default.ensures.cases)

@@ -1,16 +1,15 @@
-use mathlib.Core.Path.{refl}
-use borrow.Author.Tests.{lt-ltb, le-ltb, not-true, not-false}
+use Rattle.std.proofs.Common.{refl, lt-ltb, le-ltb}
+use borrow.Author.Tests.{not-true, not-false}
 use Rattle.xml_spec.specs.Rows.{end_refusal}
-use Rattle.xml.specs.Passes.{told}
 use Rattle.xml.proofs.end_event.Goals as goal
 
 pub returns-then-not-tally : goal.returns-then-not-tally
-unfolding end_refusal told
-returns-then-not-tally c = (rw (not-true c.args.tally.legal c.if-not-tally.true), refl)
+unfolding end_refusal
+returns-then-not-tally c = rw (not-true c.args.tally.legal c.if-not-tally.true)
 
 pub returns-then-room-tally : goal.returns-then-room-tally
-unfolding end_refusal told
-returns-then-room-tally c = (rw (not-false c.args.tally.legal c.if-not-tally.false, lt-ltb _ _ c.if-room-tally.true), refl)
+unfolding end_refusal
+returns-then-room-tally c = rw (not-false c.args.tally.legal c.if-not-tally.false, lt-ltb _ _ c.if-room-tally.true)
 
 pub returns : goal.returns
 unfolding end_refusal

@@ -1,25 +1,31 @@
-use mathlib.Core.Path.{refl}
-use native.Mathlib.Omega.{arith}
-use Rattle.xml.proofs.Turns.{refused-turn, go-turn, no-turn}
+use Rattle.std.proofs.Common.{refl, sym, ap, ◌∙◌, arith}
+use Rattle.xml_spec.specs.Rows.{rows_refusal}
+use Rattle.xml.proofs.Laws.{no-rows}
+use Rattle.xml.proofs.Turns.{rows-split, refused-on}
 use Rattle.xml.proofs.measure.Goals as goal
 
-pub loop-row-init : goal.loop-row-init
-loop-row-init c = (omega arith, omega arith, refl)
-
-pub measure_row-requires : goal.measure_row-requires
-measure_row-requires c = (omega (arith, c.loop-row.invariant.0, c.loop-row.invariant.1, c.loop-row-test.true, c.requires.0), c.requires.1)
-
-pub returns-in-Refused : goal.returns-in-Refused
-returns-in-Refused c = refused-turn c.args.first.now c.args.second.now c.args.rows.now c.loop-row.row c.args.room c.loop-row.tally _ _ _ (omega (arith, c.loop-row.invariant.0, c.loop-row.invariant.1, c.loop-row-test.true, c.requires.0)) c.loop-row.invariant.2 c.measure_row.ensures c.in-Refused.is
-
-pub overflow_add-row : goal.overflow_add-row
-overflow_add-row c = omega (arith, c.loop-row-test.true, c.well_formed, c.loop-row.invariant.1, c.requires.0)
-
-pub loop-row-smaller : goal.loop-row-smaller
-loop-row-smaller c = omega (arith, c.loop-row-test.true, c.loop-row.invariant.1, c.requires.0)
+pub returns-in_err-tally : goal.returns-in_err-tally
+returns-in_err-tally c =
+    let p = c.in-Some.ensures.cases in
+    let f = c.args.first.now in
+    let s = c.args.second.now in
+    let t = c.loop-row.tally in
+    let same = rows-split f s c.loop-row.rest.now _ _ (omega arith) p.0 p.1 in
+    refused-on _ c.in_err-tally.field-0.0 _ c.from_residual.ensures.1
+    (sym (c.in_err-tally.ensures _ (c.ends.ensures f s)) ∙ sym (ap (rows_refusal c.args.room t.at t.legal) same) ∙ c.loop-row.invariant.left)
 
 pub loop-row-preserved : goal.loop-row-preserved
-loop-row-preserved c = (omega (arith, c.loop-row.invariant.0, c.loop-row.invariant.1, c.loop-row-test.true, c.requires.0), omega (arith, c.loop-row.invariant.1), go-turn c.args.first.now c.args.second.now c.args.rows.now c.loop-row.row c.args.room c.loop-row.tally _ _ _ (omega (arith, c.loop-row.invariant.0, c.loop-row.invariant.1, c.loop-row-test.true, c.requires.0)) c.loop-row.invariant.2 c.measure_row.ensures c.in-Go.is)
+loop-row-preserved c =
+    let p = c.in-Some.ensures.cases in
+    let f = c.args.first.now in
+    let s = c.args.second.now in
+    let t = c.loop-row.tally in
+    let same = rows-split f s c.loop-row.rest.now _ _ (omega arith) p.0 p.1 in
+    record {
+      whole = omega (arith, c.loop-row.invariant.whole);
+      left = sym (c.in_ok-tally.ensures _ (c.ends.ensures f s)) ∙ sym (ap (rows_refusal c.args.room t.at t.legal) same) ∙ c.loop-row.invariant.left;
+    }
 
 pub returns : goal.returns
-returns c = no-turn c.args.first.now c.args.second.now c.args.rows.now c.loop-row.row c.args.room c.loop-row.tally _ c.loop-row-test.false c.loop-row.invariant.2
+unfolding rows_refusal
+returns c = rw (no-rows c.args.first.now c.args.second.now c.loop-row.rest.now c.in_default.ensures.cases) at c.loop-row.invariant.left

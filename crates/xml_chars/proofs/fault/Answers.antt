@@ -2,27 +2,27 @@
 use mathlib.Core.Bool.{true, false}
 use mathlib.Core.Path.{sym, ◌∙◌}
 use borrow.Author.Tests.{not-true, not-false}
-use Rattle.xml_chars.proofs.Plain.{whole, not-utf8, by-places, printable}
+use Rattle.xml_chars.proofs.Plain.{whole, not-utf8, by-places, all_printable}
 use Rattle.xml_chars.proofs.fault.Goals as goal
 
-pub returns-then-is_all_printable : goal.returns-then-is_all_printable
-returns-then-is_all_printable c = sym (printable c.args.s.now (c.is_all_printable.ensures c.if-is_all_printable.true))
+pub returns-then-all_pass-clause-fault : goal.returns-then-all_pass-clause-fault
+returns-then-all_pass-clause-fault c = sym (all_printable c.args.s.now c.if-all_pass.ensures)
 
-pub returns-then-not-is_utf8 : goal.returns-then-not-is_utf8
-returns-then-not-is_utf8 c =
+pub returns-then-not-is_utf8-clause-fault : goal.returns-then-not-is_utf8-clause-fault
+returns-then-not-is_utf8-clause-fault c =
     let s = c.args.s.now in
     let utf8 = rw (whole s) at c.is_utf8.ensures in
     sym (not-utf8 s (sym utf8 ∙ c.if-not-is_utf8.true))
 
-pub returns-then-has_illegal : goal.returns-then-has_illegal
-returns-then-has_illegal c =
+pub returns-then-has_illegal-clause-fault : goal.returns-then-has_illegal-clause-fault
+returns-then-has_illegal-clause-fault c =
     let s = c.args.s.now in
     let utf8 = rw (whole s) at c.is_utf8.ensures in
     let illegal = rw (whole s) at c.has_illegal.ensures in
     sym (by-places s false (sym utf8 ∙ c.if-not-is_utf8.false) (not-true _ (sym illegal ∙ c.if-has_illegal.true)))
 
-pub returns : goal.returns
-returns c =
+pub returns-clause-fault : goal.returns-clause-fault
+returns-clause-fault c =
     let s = c.args.s.now in
     let utf8 = rw (whole s) at c.is_utf8.ensures in
     let illegal = rw (whole s) at c.has_illegal.ensures in

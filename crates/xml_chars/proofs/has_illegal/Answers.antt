@@ -1,18 +1,15 @@
--- `xml_chars::has_illegal` meets its contract. Its loop keeps that no illegal character begins before i.
-use native.Mathlib.Omega.{arith}
-use mathlib.Core.Bool.{not}
-use mathlib.Core.Path.{refl, sym, ◌∙◌, ap}
-use borrow.Author.Rules.{rules}
+-- `xml_chars::has_illegal` meets its contract: place after place at the end.
+use Rattle.std.proofs.Common.{not, sym, ◌∙◌, ap, arith}
+use Rattle.xml_chars.proofs.Places.{passes, stops, ends}
 use Rattle.xml_chars.proofs.has_illegal.Goals as goal
 
-pub loop-i-init : goal.loop-i-init
-loop-i-init c = (search rules, refl)
+pub returns-then-illegal_at : goal.returns-then-illegal_at
+returns-then-illegal_at c =
+    let l = c.loop-k in
+    sym (ap not (l.invariant ∙ stops c.args.s.now l.k (omega arith) (sym c.illegal_at.ensures ∙ c.if-illegal_at.true)))
 
-pub returns-then-illegal_in-ne0 : goal.returns-then-illegal_in-ne0
-returns-then-illegal_in-ne0 c = sym (ap not (c.loop-i.invariant.1 ∙ c.illegal_in.ensures.any (omega arith)))
-
-pub loop-i-preserved : goal.loop-i-preserved
-loop-i-preserved c = (search rules, c.loop-i.invariant.1 ∙ c.illegal_in.ensures.none (omega arith))
+pub loop-k-preserved : goal.loop-k-preserved
+loop-k-preserved c = let l = c.loop-k in l.invariant ∙ passes c.args.s.now l.k (omega arith) (sym c.illegal_at.ensures ∙ c.if-illegal_at.false)
 
 pub returns : goal.returns
-returns c = c.ends_illegal.ensures ∙ ap not (sym c.loop-i.invariant.1)
+returns c = sym (ap not (c.loop-k.invariant ∙ ends c.args.s.now c.loop-k.k (omega arith)))

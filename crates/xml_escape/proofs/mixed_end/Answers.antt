@@ -1,9 +1,5 @@
 -- `xml_escape::mixed_end` meets its contract. Its loop counts what the octets before i take over their own.
-use Prim.Native.Nat.{◌+◌, ◌-◌}
-use native.Mathlib.Omega.{arith}
-use mathlib.Core.Path.{◌≡◌, ◌∙◌}
-use lib.ListN.{length}
-use borrow.Author.Rules.{rules}
+use Rattle.std.proofs.Common.{◌+◌, ◌-◌, ◌≡◌, ◌∙◌, length, rules, arith}
 use Rattle.xml_escape.specs.Extra.{extras}
 use Rattle.xml_escape.proofs.Turns.{end_more, end-all}
 use Rattle.xml_escape.proofs.mixed_end.Goals as goal
@@ -18,7 +14,8 @@ pub loop-i-preserved : goal.loop-i-preserved
 loop-i-preserved c =
     let l = c.loop-i in
     let a = c.args in
-    (search rules, end_more a.s.now a.limit a.at l.i 48 l.place _ _ l.invariant.1 c.extra_in.ensures c.after-place-in-loop-i.ensures)
+    let n : l.i + 48 - l.i ≡ 48 = omega arith in
+    (search rules, end_more a.s.now a.limit a.at l.i 48 l.place _ _ l.invariant.1 (rw n at c.extra_in.ensures) c.after-place-in-loop-i.ensures)
 
 pub returns : goal.returns
 returns c =

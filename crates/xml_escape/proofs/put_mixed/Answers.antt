@@ -1,19 +1,14 @@
 -- `xml_escape::put_mixed` meets its contract. Its loop keeps that the octets before i are put.
-use Prim.Native.Nat.{◌+◌, ◌-◌}
-use native.Mathlib.Omega.{arith}
-use mathlib.Core.Path.{◌≡◌}
-use lib.ListN.{length}
-use Rattle.xml_escape.specs.Extra.{Bare}
-use Rattle.xml_escape.proofs.Turns.{none-put, all-put, part-put, bare-put, bare-none, bare-more}
+use Rattle.std.proofs.Common.{◌+◌, ◌∙◌, sym, length, arith}
+use Rattle.xml_escape.specs.Extra.{escape-bare}
+use Rattle.xml_escape.proofs.Turns.{none-put, all-put, part-put, bare-put}
 use Rattle.xml_escape.proofs.put_mixed.Goals as goal
 
 pub loop-i-init : goal.loop-i-init
 loop-i-init c = none-put _ _ _ _ c.after-place.ensures
 
 pub loop-i-preserved-then-i-end : goal.loop-i-preserved-then-i-end
-loop-i-preserved-then-i-end c =
-    let l = c.loop-i in
-    bare-put _ _ _ _ _ _ _ _ l.invariant _ c.skip_bare-end.ensures c.put-place.ensures
+loop-i-preserved-then-i-end c = bare-put _ _ _ _ _ _ _ _ c.loop-i.invariant _ c.skip_bare-end.ensures c.put-place.ensures
 
 pub loop-i-preserved : goal.loop-i-preserved
 loop-i-preserved c =
@@ -24,10 +19,8 @@ pub returns-then-extra_in-eq0 : goal.returns-then-extra_in-eq0
 returns-then-extra_in-eq0 c =
     let l = c.loop-i in
     let s = c.args.s.now in
-    let e : l.i + (length s - l.i) ≡ length s = omega (arith, l.invariant.within) in
-    let none = bare-none s l.i l.invariant.within in
-    let b : Bare s l.i (length s) = rw e at (bare-more s _ l.i (length s - l.i) _ (omega arith) c.extra_in.ensures c.if-extra_in-eq0.true none) in
-    all-put _ _ _ _ _ (bare-put _ _ _ _ _ _ _ _ l.invariant (length s) b c.put.ensures)
+    let e = escape-bare _ (sym c.extra_in.ensures ∙ c.if-extra_in-eq0.true) in
+    all-put _ _ _ _ _ (part-put _ _ _ _ _ _ _ _ l.invariant (length s) l.invariant.within (omega arith) (rw e c.put.ensures))
 
 pub returns : goal.returns
 returns c =

@@ -1,11 +1,6 @@
--- `xml_escape::put_octets` meets its contract. Its loop keeps that the octets before i are put.
-use Prim.Native.Nat.{◌-◌}
-use lib.ListN.{length}
+-- `xml_escape::put_octets` meets its contract. Its loop keeps that the octets so far are put.
 use Rattle.xml_escape.proofs.Turns.{UpTo}
 use Rattle.xml_escape.proofs.put_octets.Given as goal
 
-abbrev pub invariant-loop-i : goal.invariant-loop-i
-invariant-loop-i l = UpTo l.s l.initial.out l.at l.i l.out l.place
-
-abbrev pub decreases-loop-i : goal.decreases-loop-i
-decreases-loop-i l = length l.s - l.i
+abbrev pub invariant-loop-b : goal.invariant-loop-b
+invariant-loop-b l = UpTo l.s l.initial.out l.at l.b-index l.out l.place

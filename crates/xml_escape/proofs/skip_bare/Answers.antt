@@ -1,5 +1,5 @@
--- `xml_escape::skip_bare` meets its contract. The invariant of its loop is what it ensures, at k.
-use native.Mathlib.Omega.{arith}
+-- `xml_escape::skip_bare` meets its contract: a block more.
+use Rattle.std.proofs.Common.{arith}
 use Rattle.xml_escape.proofs.Turns.{bare-none, bare-more}
 use Rattle.xml_escape.proofs.skip_bare.Goals as goal
 

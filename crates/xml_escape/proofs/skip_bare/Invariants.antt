@@ -1,6 +1,5 @@
 -- `xml_escape::skip_bare` meets its contract. The invariant of its loop is what it ensures, at k.
-use Prim.Native.Nat.{◌-◌}
-use lib.ListN.{length}
+use Rattle.std.proofs.Common.{◌-◌, length}
 use Rattle.xml_escape.specs.Extra.{Bare}
 use Rattle.xml_escape.proofs.skip_bare.Given as goal
 

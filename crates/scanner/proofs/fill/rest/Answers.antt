@@ -1,5 +1,4 @@
-use native.Mathlib.Omega.{arith}
-use mathlib.Core.Path.{sym, ◌∙◌}
+use Rattle.std.proofs.Common.{arith, sym, ◌∙◌}
 use Rattle.grammar.specs.Turn.{rest}
 use Rattle.grammar.specs.Trusted.{always}
 use Rattle.scanner.proofs.Walking.{walked_none, walked-long, walked-rows, none_left, walk-asks, walk-moves, walk_more}
@@ -10,12 +9,6 @@ loop-home-init c =
     let a = c.args in
     let p = c.requires in
     (p.from_in_bounds.0, (p.from_in_bounds.1, omega arith), walked_none a.home a.s.now a.start (rest always a.s.now a.start.names a.from) a.table.now a.store.now a.rows.now a.first)
-
-pub overflow_sub-rows : goal.overflow_sub-rows
-overflow_sub-rows c =
-    let l = c.loop-home in
-    let n = walked-long _ _ _ _ _ _ _ _ _ _ _ _ _ _ l.invariant.2 in
-    omega (arith, n, l.invariant.1.0)
 
 pub returns-then-rows-to-lt8 : goal.returns-then-rows-to-lt8
 returns-then-rows-to-lt8 c =
@@ -30,12 +23,6 @@ attribute-ahead-requires c =
     let n = walked-long _ _ _ _ _ _ _ _ _ _ _ _ _ _ l.invariant.2 in
     let q = walk-asks _ _ _ _ _ _ _ _ p.ready _ _ _ _ _ _ l.invariant.2 (sym c.is_attribute.ensures ∙ c.loop-home-test.true) in
     record { within = q.0; has = q.1; to_in_bounds = omega (arith, n, l.invariant.1.0, c.if-rows-to-lt8.false) }
-
-pub overflow_add-to : goal.overflow_add-to
-overflow_add-to c =
-    let l = c.loop-home in
-    let n = walked-long _ _ _ _ _ _ _ _ _ _ _ _ _ _ l.invariant.2 in
-    omega (arith, n, l.invariant.1.0, c.if-rows-to-lt8.false, c.well_formed)
 
 pub loop-home-smaller : goal.loop-home-smaller
 loop-home-smaller c =

@@ -1,5 +1,4 @@
-use Prim.Native.Nat.{◌+◌, ◌*◌, ◌-◌, ◌≤◌}
-use lib.ListN.{length}
+use Rattle.std.proofs.Common.{◌+◌, ◌*◌, ◌-◌, ◌≤◌, length}
 use Rattle.grammar.specs.Turn.{rest}
 use Rattle.grammar.specs.Trusted.{always}
 use Rattle.scanner.specs.Fill.{Walked}

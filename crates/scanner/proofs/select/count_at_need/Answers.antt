@@ -1,7 +1,4 @@
-use mathlib.Core.Path.{refl, sym, ap, ◌∙◌}
-use Prim.Native.Nat.{ℕ, ◌+◌}
-use borrow.Author.Tests.{le-ltb}
-use lib.Dec.{ltb}
+use Rattle.std.proofs.Common.{refl, sym, ap, ◌∙◌, ℕ, ◌+◌, le-ltb, ltb}
 use Rattle.scanner.specs.Select.{place_of}
 use Rattle.scanner.proofs.Picking.{surely}
 use Rattle.scanner.proofs.select.count_at_need.Goals as goal
@@ -16,4 +13,4 @@ returns c =
     let a = c.args in
     let enough = sym c.is_short.ensures ∙ c.if-is_short.false in
     let sure = ap (λ (n : ℕ). ltb a.room (a.written + n)) (sym c.most_taken-most.ensures) ∙ enough in
-    record { rows = enough ∙ sym (le-ltb a.room (a.written + _) (surely a.document.now (place_of a.at a.names) a.table.now a.extent.rows a.extent.added c.requires a.query a.element.now a.name.now a.room a.written sure)); names = refl }
+    record { rows = enough ∙ sym (le-ltb a.room (a.written + _) (surely a.start.document.now (place_of a.start.at a.start.names) a.table.now a.extent.rows a.extent.added c.requires a.wanted.query a.wanted.element.now a.wanted.name.now a.room a.written sure)); names = refl }

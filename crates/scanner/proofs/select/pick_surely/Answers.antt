@@ -1,9 +1,4 @@
-use native.Mathlib.Omega.{arith}
-use mathlib.Core.Path.{sym, ap, ◌∙◌}
-use Prim.Native.Nat.{ℕ, ◌+◌, ◌/◌}
-use borrow.Author.Tests.{lt-ltb, le-ltb}
-use lib.ListN.{length}
-use lib.Dec.{ltb}
+use Rattle.std.proofs.Common.{arith, sym, ap, ◌∙◌, ℕ, ◌+◌, ◌/◌, lt-ltb, le-ltb, length, ltb}
 use Rattle.scanner.specs.Select.{place_of, turned}
 use Rattle.scanner.proofs.Picking.{few-rows, surely}
 use Rattle.scanner.proofs.select.pick_surely.Goals as goal
@@ -13,7 +8,7 @@ returns-then-room-written c =
     let a = c.args in
     let w = c.requires in
     let none = c.if-room-written.true in
-    λ events. rw (lt-ltb (length a.rows.now / 8) a.written none) (ap turned (few-rows a.document.now (place_of a.at a.names) a.table.now a.extent.rows a.extent.added w a.query a.element.now a.name.now a.rows.now events a.written a.extent.len _ _ (lt-ltb (length a.rows.now / 8) (a.written + _) (omega arith)) c.new.ensures.0 c.new.ensures.1))
+    λ events. rw (lt-ltb (length a.rows.now / 8) a.written none) (ap turned (few-rows a.start.document.now (place_of a.start.at a.start.names) a.table.now a.extent.rows a.extent.added w a.wanted.query a.wanted.element.now a.wanted.name.now a.rows.now events a.written a.extent.len (lt-ltb (length a.rows.now / 8) (a.written + _) (omega arith))))
 
 pub returns-then-is_short : goal.returns-then-is_short
 returns-then-is_short c =
@@ -26,7 +21,7 @@ pick_fitting-requires c =
     let a = c.args in
     let w = c.requires in
     let short = ap (λ (n : ℕ). ltb (length a.rows.now / 8) (a.written + n)) (sym c.most_taken.ensures) ∙ sym c.is_short.ensures in
-    record { whole_at = w; table_in_bounds = surely a.document.now (place_of a.at a.names) a.table.now a.extent.rows a.extent.added w a.query a.element.now a.name.now (length a.rows.now / 8) a.written (short ∙ c.if-is_short.false) }
+    record { whole_at = w; table_in_bounds = surely a.start.document.now (place_of a.start.at a.start.names) a.table.now a.extent.rows a.extent.added w a.wanted.query a.wanted.element.now a.wanted.name.now (length a.rows.now / 8) a.written (short ∙ c.if-is_short.false) }
 
 pub returns : goal.returns
 returns c =

@@ -1,7 +1,6 @@
 use Rattle.wire.specs.Token.{commands}
-use mathlib.Core.Path.{refl}
 use Rattle.wire.proofs.Command.all.Goals as goal
 
 pub returns : goal.returns
 unfolding commands
-returns c = refl
+returns c = cc

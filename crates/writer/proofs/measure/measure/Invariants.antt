@@ -1,11 +1,12 @@
-use mathlib.Core.Path.{◌≡◌}
-use Prim.Native.Nat.{◌-◌}
-use lib.ListN.{length}
+use Rattle.std.proofs.Common.{◌≡◌, length}
+use Rattle.writer.proofs.Turns.{From}
 use Rattle.writer.proofs.Measuring.{Measuring}
 use Rattle.writer.proofs.measure.measure.Given as goal
 
-abbrev pub invariant-loop-row : goal.invariant-loop-row
-invariant-loop-row l = Measuring l.first l.second l.output l.pool l.rows l.kept l.initial.tally.at l.row l.tally l.notes l.heads × (length l.notes ≡ length l.initial.notes) × (length l.heads ≡ length l.initial.heads) × (length l.seen ≡ length l.initial.seen)
+abbrev pub invariant-loop-w : goal.invariant-loop-w
+invariant-loop-w l =
+    From l.rows l.rest (λ row. Measuring l.first l.second l.output l.pool l.rows l.kept l.initial.tally.at row l.tally l.notes l.heads)
+    × (length l.notes ≡ length l.initial.notes) × (length l.heads ≡ length l.initial.heads) × (length l.seen ≡ length l.initial.seen)
 
-abbrev pub decreases-loop-row : goal.decreases-loop-row
-decreases-loop-row l = length l.rows - l.row
+abbrev pub decreases-loop-w : goal.decreases-loop-w
+decreases-loop-w l = length l.rest

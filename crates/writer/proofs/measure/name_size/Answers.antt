@@ -22,7 +22,7 @@ look_up-requires c =
     let f = a.first.now in
     let s = a.second.now in
     let w = a.w.now in
-    record { in_bounds = p.in_bounds; name_value = c.name_in-name.ensures.bytes; slot_value = (c.slot_of-slot.ensures, rw c.slot_of-slot.ensures (slot-below (length a.heads.now) _ p.slots.some-slots)); linked = k.3.linked }
+    record { name_value = c.name_in-name.ensures.bytes; slot_value = (c.slot_of-slot.ensures, rw c.slot_of-slot.ensures (slot-below (length a.heads.now) _ p.slots.some-slots)); linked = k.3.linked }
 
 pub unnoted_size-requires : goal.unnoted_size-requires
 unnoted_size-requires c =
@@ -32,36 +32,24 @@ unnoted_size-requires c =
     let f = a.first.now in
     let s = a.second.now in
     let w = a.w.now in
-    let unnoted = rw c.in-Nowhere.is at c.look_up.ensures in
-    record { maybe_indexed = c.requires.maybe_indexed; in_bounds = p.in_bounds; name_value = c.name_in-name.ensures.bytes; kept_in_bounds = p.kept_in_bounds; used_in_bounds = p.used_in_bounds; slot_value = (c.slot_of-slot.ensures, rw c.slot_of-slot.ensures (slot-below (length a.heads.now) _ p.slots.some-slots)); kept = k; unnoted = unnoted }
+    let unnoted = rw c.in-None.is at c.look_up.ensures in
+    record { maybe_indexed = c.requires.maybe_indexed; name_value = c.name_in-name.ensures.bytes; kept_in_bounds = p.kept_in_bounds; used_in_bounds = p.used_in_bounds; slot_value = (c.slot_of-slot.ensures, rw c.slot_of-slot.ensures (slot-below (length a.heads.now) _ p.slots.some-slots)); kept = k; name_len_bound = c.name_in-name.ensures.short; unnoted = unnoted }
 
-pub shape_of-notes-in-At : goal.shape_of-notes-in-At
-shape_of-notes-in-At c = refl
-
-pub shape_of-heads-in-At : goal.shape_of-heads-in-At
-shape_of-heads-in-At c = refl
-
-pub returns-in-At : goal.returns-in-At
+pub returns-in-Some : goal.returns-in-Some
 unfolding row_at
-returns-in-At c =
+returns-in-Some c =
     let a = c.args in
     let p = c.requires in
     let k = p.kept in
     let f = a.first.now in
     let s = a.second.now in
     let w = a.w.now in
-    let says = rw c.in-At.is at c.look_up.ensures in
+    let says = rw c.in-Some.is at c.look_up.ensures in
     λ pool e t. says-noted f s a.output.now a.pool.now a.kept pool (row_at f s w) _ a.notes.now a.used (sym c.has_name.ensures ∙ c.if-has_name.true) (name-is f s w a.names (sym c.has_name.ensures ∙ c.if-has_name.true) ∙ sym c.name_in-name.ensures.bytes) a.heads.now _ a.names e p.used_in_bounds t says
 
-pub shape_of-notes-in-Nowhere : goal.shape_of-notes-in-Nowhere
-shape_of-notes-in-Nowhere c = c.unnoted_size.auto.notes
-
-pub shape_of-heads-in-Nowhere : goal.shape_of-heads-in-Nowhere
-shape_of-heads-in-Nowhere c = c.unnoted_size.auto.heads
-
-pub returns-in-Nowhere : goal.returns-in-Nowhere
+pub returns-in-None : goal.returns-in-None
 unfolding row_at
-returns-in-Nowhere c =
+returns-in-None c =
     let a = c.args in
     let p = c.requires in
     let k = p.kept in

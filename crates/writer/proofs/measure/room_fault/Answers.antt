@@ -7,11 +7,11 @@ use Rattle.writer.proofs.measure.room_fault.Goals as goal
 
 pub returns-then-pool-names : goal.returns-then-pool-names
 unfolding room_of
-returns-then-pool-names c = rw (lt-ltb (length c.args.pool.now) (2 * c.args.names) (omega arith), c.new.ensures.0, c.new.ensures.1)
+returns-then-pool-names c = rw (lt-ltb (length c.args.pool.now) (2 * c.args.names) (omega arith))
 
 pub returns-then-output-at : goal.returns-then-output-at
 unfolding room_of
-returns-then-output-at c = rw (le-ltb (length c.args.pool.now) (2 * c.args.names) (omega arith), lt-ltb _ _ c.if-output-at.true, c.new-then-output-at.ensures.0, c.new-then-output-at.ensures.1)
+returns-then-output-at c = rw (le-ltb (length c.args.pool.now) (2 * c.args.names) (omega arith), lt-ltb _ _ c.if-output-at.true)
 
 pub returns : goal.returns
 unfolding room_of

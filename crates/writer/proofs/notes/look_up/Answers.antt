@@ -16,7 +16,7 @@ loop-next-init c = begins c.args.first.now c.args.second.now c.args.notes.now c.
 
 pub is_noted-requires : goal.is_noted-requires
 is_noted-requires c =
-    record { in_bounds = c.requires.in_bounds; k_in_bounds = omega (arith, c.loop-next.invariant.below); name_value = c.requires.name_value }
+    record { k_in_bounds = omega (arith, c.loop-next.invariant.below); name_value = c.requires.name_value }
 
 pub overflow_mul-result : goal.overflow_mul-result
 overflow_mul-result c = omega (arith, c.loop-next.invariant.below)

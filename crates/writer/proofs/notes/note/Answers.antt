@@ -1,21 +1,10 @@
-use mathlib.Core.Path.{refl}
-use lib.ListN.{length-set}
-use native.Mathlib.Numerals.{towards_suc}
-use native.Mathlib.Omega.{arith}
+use Rattle.std.proofs.Common.{get_or, [], ◌∷◌}
+use Rattle.writer.proofs.Parts.{part-stored}
 use Rattle.writer.proofs.notes.note.Goals as goal
 
-pub bounds-notes-used-2 : goal.bounds-notes-used-2
-bounds-notes-used-2 c = simp length-set (omega arith)
-
-pub bounds-notes-used-3 : goal.bounds-notes-used-3
-bounds-notes-used-3 c = simp length-set (omega arith)
-
-pub bounds-notes-used-4 : goal.bounds-notes-used-4
-bounds-notes-used-4 c = simp length-set (omega arith)
-
-pub bounds-notes-used-5 : goal.bounds-notes-used-5
-bounds-notes-used-5 c = simp length-set (omega arith)
-
-pub returns : goal.returns
-returns c =
-    record { notes_after = simp towards_suc; heads_after = refl }
+pub returns-clause-notes_after : goal.returns-clause-notes_after
+returns-clause-notes_after c =
+    let a = c.args in
+    let w = a.w.now in
+    let words = get_or w 1 0 ∷ get_or w 2 0 ∷ get_or w 3 0 ∷ a.index ∷ get_or a.heads.now a.slot 0 ∷ [] in
+    part-stored a.notes.now words _ a.used c.requires.used_in_bounds.0 c.copy_from_slice.ensures.after

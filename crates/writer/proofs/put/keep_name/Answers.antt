@@ -16,7 +16,7 @@ bounds-pool-names c =
     let s = a.second.now in
     let w = a.w.now in
     let named = sym c.has_name.ensures ∙ c.if-has_name.true in
-    let j : joins_by (known_of a.known) (row_at f s w) a.names ≡ true = ap (λ k. joins_by (known_of k) (row_at f s w) a.names) c.in-New.is ∙ joins f s w a.names named c.if-names.true in
+    let j : joins_by (known_of a.known) (row_at f s w) a.names ≡ true = ap (λ k. joins_by (known_of k) (row_at f s w) a.names) c.in-None.is ∙ joins f s w a.names named c.if-names.true in
     omega (arith, pair-length a.pool.now (known_of a.known) (row_at f s w) a.names a.at j, c.requires.at_in_bounds)
 
 pub overflow_cast-pool-then-names : goal.overflow_cast-pool-then-names
@@ -34,7 +34,7 @@ bounds-pool-names-then-names c =
     let s = a.second.now in
     let w = a.w.now in
     let named = sym c.has_name.ensures ∙ c.if-has_name.true in
-    let j : joins_by (known_of a.known) (row_at f s w) a.names ≡ true = ap (λ k. joins_by (known_of k) (row_at f s w) a.names) c.in-New.is ∙ joins f s w a.names named c.if-names.true in
+    let j : joins_by (known_of a.known) (row_at f s w) a.names ≡ true = ap (λ k. joins_by (known_of k) (row_at f s w) a.names) c.in-None.is ∙ joins f s w a.names named c.if-names.true in
     simp length-set (omega (arith, pair-length a.pool.now (known_of a.known) (row_at f s w) a.names a.at j, c.requires.at_in_bounds))
 
 pub returns-then-names : goal.returns-then-names
@@ -44,7 +44,7 @@ returns-then-names c =
     let s = a.second.now in
     let w = a.w.now in
     let named = sym c.has_name.ensures ∙ c.if-has_name.true in
-    let j : joins_by (known_of a.known) (row_at f s w) a.names ≡ true = ap (λ k. joins_by (known_of k) (row_at f s w) a.names) c.in-New.is ∙ joins f s w a.names named c.if-names.true in
+    let j : joins_by (known_of a.known) (row_at f s w) a.names ≡ true = ap (λ k. joins_by (known_of k) (row_at f s w) a.names) c.in-None.is ∙ joins f s w a.names named c.if-names.true in
     record { pairs = pair-stored a.pool.now (known_of a.known) (row_at f s w) a.names a.at _ j (ap length (c.name_in-name.ensures.bytes ∙ sym (name-is f s w a.names named))); count = sym (ap (λ b. cond b (a.names + 1) a.names) j) }
 
 pub returns-else-names : goal.returns-else-names
@@ -53,7 +53,7 @@ returns-else-names c =
     let f = a.first.now in
     let s = a.second.now in
     let w = a.w.now in
-    let j : joins_by (known_of a.known) (row_at f s w) a.names ≡ false = ap (λ k. joins_by (known_of k) (row_at f s w) a.names) c.in-New.is ∙ full f s w a.names c.if-names.false in
+    let j : joins_by (known_of a.known) (row_at f s w) a.names ≡ false = ap (λ k. joins_by (known_of k) (row_at f s w) a.names) c.in-None.is ∙ full f s w a.names c.if-names.false in
     record { pairs = none-stored a.pool.now (known_of a.known) (row_at f s w) a.names a.at j; count = sym (ap (λ b. cond b (a.names + 1) a.names) j) }
 
 pub returns-in_default : goal.returns-in_default

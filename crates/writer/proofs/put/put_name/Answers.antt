@@ -21,18 +21,18 @@ put_u16-requires c =
     let f = a.first.now in
     let s = a.second.now in
     let w = a.w.now in
-    let e = ap (λ k. named_by (known_of k) (row_at f s w)) c.in-At.is ∙ named-at f s w _ (sym c.has_name.ensures ∙ c.if-has_name.true) in
+    let e = ap (λ k. named_by (known_of k) (row_at f s w)) c.in-Some.is ∙ named-at f s w _ (sym c.has_name.ensures ∙ c.if-has_name.true) in
     omega (arith, ap length e, c.requires.w_in_bounds)
 
-pub put_u16-requires-in-New : goal.put_u16-requires-in-New
+pub put_u16-requires-in-None : goal.put_u16-requires-in-None
 unfolding be16
-put_u16-requires-in-New c =
+put_u16-requires-in-None c =
     let a = c.args in
     let f = a.first.now in
     let s = a.second.now in
     let w = a.w.now in
     let n = span f s (get_or w 1 0) (get_or w 2 0) (get_or w 3 0) in
-    let e = ap (λ k. named_by (known_of k) (row_at f s w)) c.in-New.is ∙ named_new f s w (sym c.has_name.ensures ∙ c.if-has_name.true) in
+    let e = ap (λ k. named_by (known_of k) (row_at f s w)) c.in-None.is ∙ named_new f s w (sym c.has_name.ensures ∙ c.if-has_name.true) in
     omega (arith, ap length e, length-append (be16 interned_new) (sized n), c.requires.w_in_bounds)
 
 pub put_sized-requires : goal.put_sized-requires
@@ -43,32 +43,32 @@ put_sized-requires c =
     let s = a.second.now in
     let w = a.w.now in
     let n = span f s (get_or w 1 0) (get_or w 2 0) (get_or w 3 0) in
-    let e = ap (λ k. named_by (known_of k) (row_at f s w)) c.in-New.is ∙ named_new f s w (sym c.has_name.ensures ∙ c.if-has_name.true) in
-    let l = ap length c.put_u16-in-New.ensures ∙ length-sets a.output.now a.at (be16 interned_new) in
+    let e = ap (λ k. named_by (known_of k) (row_at f s w)) c.in-None.is ∙ named_new f s w (sym c.has_name.ensures ∙ c.if-has_name.true) in
+    let l = ap length c.put_u16-in-None.ensures ∙ length-sets a.output.now a.at (be16 interned_new) in
     omega (arith, ap length e, length-append (be16 interned_new) (sized n), sized-length n, l, ap length c.name_in.ensures.bytes, c.requires.w_in_bounds)
 
-pub returns-in-At : goal.returns-in-At
+pub returns-in-Some : goal.returns-in-Some
 unfolding be16
-returns-in-At c =
+returns-in-Some c =
     let a = c.args in
     let f = a.first.now in
     let s = a.second.now in
     let w = a.w.now in
-    let e = ap (λ k. named_by (known_of k) (row_at f s w)) c.in-At.is ∙ named-at f s w _ (sym c.has_name.ensures ∙ c.if-has_name.true) in
+    let e = ap (λ k. named_by (known_of k) (row_at f s w)) c.in-Some.is ∙ named-at f s w _ (sym c.has_name.ensures ∙ c.if-has_name.true) in
     record { bytes = c.put_u16.ensures ∙ ap (sets a.output.now a.at) (sym e); place = omega (arith, ap length e) }
 
-pub returns-in-New : goal.returns-in-New
+pub returns-in-None : goal.returns-in-None
 unfolding be16
-returns-in-New c =
+returns-in-None c =
     let a = c.args in
     let f = a.first.now in
     let s = a.second.now in
     let w = a.w.now in
     let n = span f s (get_or w 1 0) (get_or w 2 0) (get_or w 3 0) in
-    let e = ap (λ k. named_by (known_of k) (row_at f s w)) c.in-New.is ∙ named_new f s w (sym c.has_name.ensures ∙ c.if-has_name.true) in
+    let e = ap (λ k. named_by (known_of k) (row_at f s w)) c.in-None.is ∙ named_new f s w (sym c.has_name.ensures ∙ c.if-has_name.true) in
     let stored = rw c.name_in.ensures.bytes at c.put_sized.ensures.bytes in
     let place = rw c.name_in.ensures.bytes at c.put_sized.ensures.place in
-    record { bytes = in-turn a.output.now _ _ (be16 interned_new) (sized n) a.at (a.at + 2) c.put_u16-in-New.ensures refl stored ∙ ap (sets a.output.now a.at) (sym e); place = place_after (be16 interned_new) (sized n) a.at (a.at + 2) _ refl place ∙ ap (λ x. a.at + length x) (sym e) }
+    record { bytes = in-turn a.output.now _ _ (be16 interned_new) (sized n) a.at (a.at + 2) c.put_u16-in-None.ensures refl stored ∙ ap (sets a.output.now a.at) (sym e); place = place_after (be16 interned_new) (sized n) a.at (a.at + 2) _ refl place ∙ ap (λ x. a.at + length x) (sym e) }
 
 pub returns : goal.returns
 returns c =

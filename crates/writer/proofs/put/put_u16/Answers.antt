@@ -1,12 +1,12 @@
-use lib.ListN.{length-set}
-use native.Mathlib.Numerals.{towards_suc}
-use native.Mathlib.Omega.{arith}
+use Rattle.std.proofs.Common.{◌≡◌, ◌/◌, ◌%◌, arith, ◌∙◌}
 use Rattle.wire.specs.Header.{be16}
+use Rattle.writer.proofs.Parts.{part-stored}
 use Rattle.writer.proofs.put.put_u16.Goals as goal
-
-pub bounds-output-at-2 : goal.bounds-output-at-2
-bounds-output-at-2 c = simp length-set (omega arith)
 
 pub returns : goal.returns
 unfolding be16
-returns c = simp towards_suc
+returns c =
+    let a = c.args in
+    let high : a.n % 65536 / 256 % 256 ≡ a.n / 256 % 256 = omega arith in
+    let low : a.n % 65536 % 256 ≡ a.n % 256 = omega arith in
+    part-stored a.output.now (be16 a.n) _ a.at c.requires (c.copy_from_slice.ensures.after ∙ c.to_be_bytes.ensures ∙ rw (high, low))

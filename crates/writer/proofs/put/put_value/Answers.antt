@@ -6,7 +6,7 @@ use lib.Seq.{sets}
 use Rattle.wire.specs.Header.{be32}
 use Rattle.event.specs.Span.{span}
 use Rattle.writer_spec.specs.Encode.{sized}
-use Rattle.writer.proofs.Values.{sized-length, bytes-nothing, bytes-interned, bytes-unknown, bytes-string, bytes-blob, bytes_word, bytes_pair}
+use Rattle.writer.proofs.Values.{sized-length, bytes-none, bytes-long, bytes_word, bytes_pair}
 use Rattle.writer.proofs.Bytes.{in-turn, nothing_stored}
 use Rattle.writer.proofs.put.put_value.Goals as goal
 
@@ -17,16 +17,7 @@ put_sized-requires c =
     let s = a.second.now in
     let w = a.w.now in
     let b = span f s (get_or w 5 0) (get_or w 6 0) (get_or w 7 0) in
-    omega (arith, ap length (bytes-string f s w (sym c.shape_of.ensures ∙ c.in-String.is)), sized-length b, ap length c.value_in.ensures.bytes, c.requires.w_in_bounds)
-
-pub put_sized-requires-in-Blob : goal.put_sized-requires-in-Blob
-put_sized-requires-in-Blob c =
-    let a = c.args in
-    let f = a.first.now in
-    let s = a.second.now in
-    let w = a.w.now in
-    let b = span f s (get_or w 5 0) (get_or w 6 0) (get_or w 7 0) in
-    omega (arith, ap length (bytes-blob f s w (sym c.shape_of.ensures ∙ c.in-Blob.is)), sized-length b, ap length c.value_in-in-Blob.ensures.bytes, c.requires.w_in_bounds)
+    omega (arith, ap length (bytes-long f s w _ c.shape_of.ensures c.in-String.is), sized-length b, ap length c.value_in.ensures.bytes, c.requires.w_in_bounds)
 
 pub put_u32-requires : goal.put_u32-requires
 unfolding be32
@@ -62,7 +53,7 @@ returns-in-Nothing c =
     let f = a.first.now in
     let s = a.second.now in
     let w = a.w.now in
-    let asked = nothing_stored a.output.now _ a.at (bytes-nothing f s w (sym c.shape_of.ensures ∙ c.in-Nothing.is)) in record { bytes = asked.0; place = asked.1 }
+    let asked = nothing_stored a.output.now _ a.at (bytes-none f s w _ c.shape_of.ensures c.in-Nothing.is) in record { bytes = asked.0; place = asked.1 }
 
 pub returns-in-String : goal.returns-in-String
 returns-in-String c =
@@ -70,25 +61,8 @@ returns-in-String c =
     let f = a.first.now in
     let s = a.second.now in
     let w = a.w.now in
-    let e = bytes-string f s w (sym c.shape_of.ensures ∙ c.in-String.is) in
+    let e = bytes-long f s w _ c.shape_of.ensures c.in-String.is in
     record { bytes = c.put_sized.ensures.bytes ∙ ap (λ x. sets a.output.now a.at (sized x)) c.value_in.ensures.bytes ∙ ap (sets a.output.now a.at) (sym e); place = c.put_sized.ensures.place ∙ ap (λ x. a.at + length (sized x)) c.value_in.ensures.bytes ∙ ap (λ x. a.at + length x) (sym e) }
-
-pub returns-in-Interned : goal.returns-in-Interned
-returns-in-Interned c =
-    let a = c.args in
-    let f = a.first.now in
-    let s = a.second.now in
-    let w = a.w.now in
-    let asked = nothing_stored a.output.now _ a.at (bytes-interned f s w (sym c.shape_of.ensures ∙ c.in-Interned.is)) in record { bytes = asked.0; place = asked.1 }
-
-pub returns-in-Blob : goal.returns-in-Blob
-returns-in-Blob c =
-    let a = c.args in
-    let f = a.first.now in
-    let s = a.second.now in
-    let w = a.w.now in
-    let e = bytes-blob f s w (sym c.shape_of.ensures ∙ c.in-Blob.is) in
-    record { bytes = c.put_sized-in-Blob.ensures.bytes ∙ ap (λ x. sets a.output.now a.at (sized x)) c.value_in-in-Blob.ensures.bytes ∙ ap (sets a.output.now a.at) (sym e); place = c.put_sized-in-Blob.ensures.place ∙ ap (λ x. a.at + length (sized x)) c.value_in-in-Blob.ensures.bytes ∙ ap (λ x. a.at + length x) (sym e) }
 
 pub returns-in-Word : goal.returns-in-Word
 unfolding be32
@@ -109,11 +83,3 @@ returns-in-Pair c =
     let w = a.w.now in
     let e = bytes_pair f s w (sym c.shape_of.ensures ∙ c.in-Pair.is) in
     record { bytes = in-turn a.output.now _ _ (be32 (get_or w 6 0)) (be32 (get_or w 7 0)) a.at (a.at + 4) c.put_u32-in-Pair.ensures refl c.put_u32-in-Pair-2.ensures ∙ ap (sets a.output.now a.at) (sym e); place = omega (arith, ap length e) }
-
-pub returns-in-Unknown : goal.returns-in-Unknown
-returns-in-Unknown c =
-    let a = c.args in
-    let f = a.first.now in
-    let s = a.second.now in
-    let w = a.w.now in
-    let asked = nothing_stored a.output.now _ a.at (bytes-unknown f s w (sym c.shape_of.ensures ∙ c.in-Unknown.is)) in record { bytes = asked.0; place = asked.1 }

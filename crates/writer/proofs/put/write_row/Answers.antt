@@ -29,7 +29,7 @@ put_name-after-requires c =
     let w = a.w.now in
     let o = known_of a.known in
     let size = row-length f s w o in
-    record { in_bounds = c.requires.in_bounds; w_in_bounds = simp length-set (omega (arith, c.requires.w_in_bounds)) }
+    record { w_in_bounds = simp length-set (omega (arith, c.requires.w_in_bounds)) }
 
 pub put_value-requires : goal.put_value-requires
 put_value-requires c =
@@ -40,7 +40,7 @@ put_value-requires c =
     let o = known_of a.known in
     let size = row-length f s w o in
     let l = ap length c.put_name-after.ensures.bytes ∙ length-sets _ (a.at + 1) (named_by o (row_at f s w)) ∙ length-set a.output.now a.at _ in
-    record { in_bounds = c.requires.in_bounds; w_in_bounds = omega (arith, l, c.put_name-after.ensures.place, c.requires.w_in_bounds) }
+    record { w_in_bounds = omega (arith, l, c.put_name-after.ensures.place, c.requires.w_in_bounds) }
 
 pub shape_of-output : goal.shape_of-output
 shape_of-output c =

@@ -22,5 +22,5 @@ returns-then-is_utf8_part c =
 pub returns : goal.returns
 returns c =
     let a = c.args in
-    rw (c.new.ensures.0, c.new.ensures.1) (string-broken (part a.store.now a.start a.len) a.len (part_length a.store.now a.start a.len c.if-store-start.false) c.if-len-gt-MAX_UNSIGNED_SHORT.false
-    (rw (part-inside a.store.now a.start a.len c.if-store-start.false) (sym c.is_utf8_part.ensures ∙ c.if-is_utf8_part.false)))
+    string-broken (part a.store.now a.start a.len) a.len (part_length a.store.now a.start a.len c.if-store-start.false) c.if-len-gt-MAX_UNSIGNED_SHORT.false
+    (rw (part-inside a.store.now a.start a.len c.if-store-start.false) (sym c.is_utf8_part.ensures ∙ c.if-is_utf8_part.false))

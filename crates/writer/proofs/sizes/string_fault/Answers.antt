@@ -1,17 +1,18 @@
-use Rattle.event.proofs.Tests.{tests}
-use Rattle.writer_spec.specs.Faults.{string_fault}
-use borrow.Author.Tests.{le-ltb}
-use mathlib.Core.Path.{sym, ◌∙◌}
+use Rattle.std.proofs.Common.{true, false, ◌≡◌, Err, rules, sym, ap, ◌∙◌}
+use Rattle.writer.specs.Answers.{fault_of}
+use Rattle.writer.proofs.Values.{string-too-long, string-by}
 use Rattle.writer.proofs.sizes.string_fault.Goals as goal
 
-pub returns-then-s-gt-MAX_UNSIGNED_SHORT : goal.returns-then-s-gt-MAX_UNSIGNED_SHORT
-unfolding string_fault
-returns-then-s-gt-MAX_UNSIGNED_SHORT c = search tests
+pub returns-in_err-blob_fault : goal.returns-in_err-blob_fault
+returns-in_err-blob_fault c =
+    let f = c.in_err-blob_fault in
+    let e : c.from_residual.result ≡ Err f.field-0.0 = search rules in
+    rw e (sym (string-too-long c.args.s.now _ (sym c.blob_fault.ensures ∙ ap fault_of f.was)))
 
 pub returns-then-is_utf8 : goal.returns-then-is_utf8
-unfolding string_fault
-returns-then-is_utf8 c = rw (le-ltb _ _ c.if-s-gt-MAX_UNSIGNED_SHORT.false, sym c.is_utf8.ensures ∙ c.if-is_utf8.true)
+returns-then-is_utf8 c =
+    sym (string-by c.args.s.now true (sym c.blob_fault.ensures ∙ ap fault_of c.in_ok-blob_fault.was) (sym c.is_utf8.ensures ∙ c.if-is_utf8.true))
 
-pub returns : goal.returns
-unfolding string_fault
-returns c = rw (le-ltb _ _ c.if-s-gt-MAX_UNSIGNED_SHORT.false, sym c.is_utf8.ensures ∙ c.if-is_utf8.false, c.new.ensures.0, c.new.ensures.1)
+pub returns-else-is_utf8 : goal.returns-else-is_utf8
+returns-else-is_utf8 c =
+    sym (string-by c.args.s.now false (sym c.blob_fault.ensures ∙ ap fault_of c.in_ok-blob_fault.was) (sym c.is_utf8.ensures ∙ c.if-is_utf8.false))

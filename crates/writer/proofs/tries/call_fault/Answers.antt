@@ -9,7 +9,7 @@ returns-then-sizes_bad c =
     let f = forms_by a.single a.first.now a.second.now a.rows.now in
     let w = state_of a.writer in
     let l = lent_of a.output.now a.pool.now in
-    rw (c.new.ensures.0, c.new.ensures.1) (fault-sizes f w l (sym c.sizes_bad.ensures ∙ c.if-sizes_bad.true))
+    fault-sizes f w l (sym c.sizes_bad.ensures ∙ c.if-sizes_bad.true)
 
 pub returns-then-state_bad : goal.returns-then-state_bad
 returns-then-state_bad c =
@@ -17,7 +17,7 @@ returns-then-state_bad c =
     let f = forms_by a.single a.first.now a.second.now a.rows.now in
     let w = state_of a.writer in
     let l = lent_of a.output.now a.pool.now in
-    rw (c.new-then-state_bad.ensures.0, c.new-then-state_bad.ensures.1) (fault-state f w l (sym c.sizes_bad.ensures ∙ c.if-sizes_bad.false) (sym c.state_bad.ensures ∙ c.if-state_bad.true))
+    fault-state f w l (sym c.sizes_bad.ensures ∙ c.if-sizes_bad.false) (sym c.state_bad.ensures ∙ c.if-state_bad.true)
 
 pub returns-then-forms : goal.returns-then-forms
 returns-then-forms c =
@@ -33,4 +33,4 @@ returns c =
     let f = forms_by a.single a.first.now a.second.now a.rows.now in
     let w = state_of a.writer in
     let l = lent_of a.output.now a.pool.now in
-    rw (c.new-2.ensures.0, c.new-2.ensures.1) (fault-forms f w l (sym c.sizes_bad.ensures ∙ c.if-sizes_bad.false) (sym c.state_bad.ensures ∙ c.if-state_bad.false) (sym c.forms.ensures ∙ c.if-forms.false))
+    fault-forms f w l (sym c.sizes_bad.ensures ∙ c.if-sizes_bad.false) (sym c.state_bad.ensures ∙ c.if-state_bad.false) (sym c.forms.ensures ∙ c.if-forms.false)

@@ -11,7 +11,7 @@ write_noted-requires c =
     let f = forms_by a.single a.first.now a.second.now a.rows.now in
     let w = state_of a.writer in
     let l = lent_of a.output.now a.pool.now in
-    let passed = fault-passed f w l (sym c.call_fault.ensures ∙ ap fault_of c.in-Nothing.is) in
+    let passed = fault-passed f w l (sym c.call_fault.ensures ∙ ap fault_of c.in-Ok.is) in
     let sizes = sizes-passed a.output.now a.pool.now passed.1 in
     let state = state-passed a.output.now a.pool.now w passed.2 in
     record {
@@ -23,37 +23,19 @@ write_noted-requires c =
       slots_2 = c.requires.slots_2;
     }
 
-pub returns-in-Refused : goal.returns-in-Refused
-returns-in-Refused c =
+pub returns-in-Err : goal.returns-in-Err
+returns-in-Err c =
     let a = c.args in
     let f = forms_by a.single a.first.now a.second.now a.rows.now in
     let w = state_of a.writer in
     let l = lent_of a.output.now a.pool.now in
-    stops_call f w l (rows_in a.first.now a.second.now a.rows.now) _ _ (sym c.call_fault.ensures ∙ ap fault_of c.in-Refused.is)
+    stops_call f w l (rows_in a.first.now a.second.now a.rows.now) _ _ (sym c.call_fault.ensures ∙ ap fault_of c.in-Err.is)
 
-pub shape_of-output-in-Nothing : goal.shape_of-output-in-Nothing
-shape_of-output-in-Nothing c = c.write_noted.auto.output
-
-pub shape_of-pool-in-Nothing : goal.shape_of-pool-in-Nothing
-shape_of-pool-in-Nothing c = c.write_noted.auto.pool
-
-pub shape_of-notes : goal.shape_of-notes
-shape_of-notes c = c.write_noted.auto.notes
-
-pub shape_of-heads : goal.shape_of-heads
-shape_of-heads c = c.write_noted.auto.heads
-
-pub shape_of-seen : goal.shape_of-seen
-shape_of-seen c = c.write_noted.auto.seen
-
-pub shape_of-index : goal.shape_of-index
-shape_of-index c = c.prepare.auto.index
-
-pub returns-in-Nothing : goal.returns-in-Nothing
-returns-in-Nothing c =
+pub returns-in-Ok : goal.returns-in-Ok
+returns-in-Ok c =
     let a = c.args in
     let f = forms_by a.single a.first.now a.second.now a.rows.now in
     let w = state_of a.writer in
     let l = lent_of a.output.now a.pool.now in
-    let passed = fault-passed f w l (sym c.call_fault.ensures ∙ ap fault_of c.in-Nothing.is) in
+    let passed = fault-passed f w l (sym c.call_fault.ensures ∙ ap fault_of c.in-Ok.is) in
     rw passed.0 c.write_noted.ensures

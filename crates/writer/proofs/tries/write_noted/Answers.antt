@@ -1,5 +1,5 @@
 use native.Mathlib.Omega.{arith}
-use mathlib.Core.Path.{refl, sym, ◌∙◌}
+use Rattle.std.proofs.Common.{Err, ap, refl, sym, ◌∙◌}
 use lib.Seq.{length-take-le}
 use Rattle.writer_spec.specs.Writer.{rows_in}
 use Rattle.writer.specs.Answers.{lent_of, state_of}
@@ -24,13 +24,13 @@ pub slice_bounds-write_rows-end : goal.slice_bounds-write_rows-end
 slice_bounds-write_rows-end c =
     let a = c.args in
     let said = c.measure in
-    used-fit a.first.now a.second.now a.output.now a.pool.now a.rows.now said.new.notes said.new.heads a.writer said.result said.ensures c.in-Used.used c.in-Used.is
+    used-fit a.first.now a.second.now a.output.now a.pool.now a.rows.now said.new.notes said.new.heads a.writer said.result said.ensures c.in-Ok.used c.in-Ok.is
 
-pub slice_bounds-write_rows-end-in-Used : goal.slice_bounds-write_rows-end-in-Used
-slice_bounds-write_rows-end-in-Used c =
+pub slice_bounds-write_rows-end-in-Ok : goal.slice_bounds-write_rows-end-in-Ok
+slice_bounds-write_rows-end-in-Ok c =
     let a = c.args in
     let said = c.measure in
-    sym (length-take-le c.in-Used.used said.new.notes (used-fit a.first.now a.second.now a.output.now a.pool.now a.rows.now said.new.notes said.new.heads a.writer said.result said.ensures c.in-Used.used c.in-Used.is))
+    sym (length-take-le c.in-Ok.used said.new.notes (used-fit a.first.now a.second.now a.output.now a.pool.now a.rows.now said.new.notes said.new.heads a.writer said.result said.ensures c.in-Ok.used c.in-Ok.is))
 
 pub write_rows-requires : goal.write_rows-requires
 write_rows-requires c =
@@ -41,69 +41,24 @@ write_rows-requires c =
     let state = state-passed a.output.now a.pool.now (state_of a.writer) p.pool_value_2 in
     let heads = slots_kept _ _ said.auto.heads p.slots.0 in
     let seen = slots_kept _ _ said.auto.seen p.slots_2 in
-    record { rows_len = whole-rows a.first.now a.second.now a.rows.now p.rows_value; rows_value = list-rows a.first.now a.second.now a.rows.now p.rows_value; output_len_bound = sizes.0; slots = (heads, seen); ready = ready_for a.first.now a.second.now a.output.now a.pool.now a.rows.now said.new.notes said.new.heads a.writer said.result said.ensures c.in-Used.used c.in-Used.is state.0 state.1 }
+    record { rows_len = whole-rows a.first.now a.second.now a.rows.now p.rows_value; rows_value = list-rows a.first.now a.second.now a.rows.now p.rows_value; output_len_bound = sizes.0; slots = (heads, seen); ready = ready_for a.first.now a.second.now a.output.now a.pool.now a.rows.now said.new.notes said.new.heads a.writer said.result said.ensures c.in-Ok.used c.in-Ok.is state.0 state.1 }
 
-pub shape_of-output-in-Refused : goal.shape_of-output-in-Refused
-shape_of-output-in-Refused c = refl
-
-pub shape_of-pool-in-Refused : goal.shape_of-pool-in-Refused
-shape_of-pool-in-Refused c = refl
-
-pub shape_of-notes-in-Refused : goal.shape_of-notes-in-Refused
-shape_of-notes-in-Refused c = c.measure.auto.notes
-
-pub shape_of-heads-in-Refused : goal.shape_of-heads-in-Refused
-shape_of-heads-in-Refused c = c.measure.auto.heads
-
-pub shape_of-seen-in-Refused : goal.shape_of-seen-in-Refused
-shape_of-seen-in-Refused c = c.measure.auto.seen
-
-pub returns-in-Refused : goal.returns-in-Refused
-returns-in-Refused c =
+pub returns-in-Err-Refused : goal.returns-in-Err-Refused
+returns-in-Err-Refused c =
     let a = c.args in
     let p = c.requires in
     let said = c.measure in
-    stops-rows (state_of a.writer) (lent_of a.output.now a.pool.now) (rows_in a.first.now a.second.now a.rows.now) p.pool_value p.pool_value_2 c.in-Refused.r.number c.in-Refused.r.detail (refused-by a.first.now a.second.now a.output.now a.pool.now a.rows.now said.new.notes said.new.heads a.writer said.result said.ensures c.in-Refused.r c.in-Refused.is)
+    rw c.in-Err-Refused.field-0-is (stops-rows (state_of a.writer) (lent_of a.output.now a.pool.now) (rows_in a.first.now a.second.now a.rows.now) p.pool_value p.pool_value_2 _ _ (refused-by a.first.now a.second.now a.output.now a.pool.now a.rows.now said.new.notes said.new.heads a.writer said.result said.ensures c.in-Err-Refused.r (c.in-Err-Refused.is ∙ ap Err c.in-Err-Refused.field-0-is)))
 
-pub shape_of-output-in-Crowded : goal.shape_of-output-in-Crowded
-shape_of-output-in-Crowded c = refl
-
-pub shape_of-pool-in-Crowded : goal.shape_of-pool-in-Crowded
-shape_of-pool-in-Crowded c = refl
-
-pub shape_of-notes-in-Crowded : goal.shape_of-notes-in-Crowded
-shape_of-notes-in-Crowded c = c.measure.auto.notes
-
-pub shape_of-heads-in-Crowded : goal.shape_of-heads-in-Crowded
-shape_of-heads-in-Crowded c = c.measure.auto.heads
-
-pub shape_of-seen-in-Crowded : goal.shape_of-seen-in-Crowded
-shape_of-seen-in-Crowded c = c.measure.auto.seen
-
-pub returns-in-Crowded : goal.returns-in-Crowded
-returns-in-Crowded c =
+pub returns-in-Err-Crowded : goal.returns-in-Err-Crowded
+returns-in-Err-Crowded c =
     let a = c.args in
     let said = c.measure in
-    (refl, rw said.auto.notes at (crowded-by a.first.now a.second.now a.output.now a.pool.now a.rows.now said.new.notes said.new.heads a.writer said.result said.ensures c.in-Crowded.is))
+    (refl, rw said.auto.notes at (crowded-by a.first.now a.second.now a.output.now a.pool.now a.rows.now said.new.notes said.new.heads a.writer said.result said.ensures (c.in-Err-Crowded.is ∙ ap Err c.in-Err-Crowded.field-0-is)))
 
-pub shape_of-output-in-Used : goal.shape_of-output-in-Used
-shape_of-output-in-Used c = c.write_rows.auto.output
-
-pub shape_of-pool-in-Used : goal.shape_of-pool-in-Used
-shape_of-pool-in-Used c = c.write_rows.auto.pool
-
-pub shape_of-notes-in-Used : goal.shape_of-notes-in-Used
-shape_of-notes-in-Used c = c.measure.auto.notes
-
-pub shape_of-heads-in-Used : goal.shape_of-heads-in-Used
-shape_of-heads-in-Used c = c.measure.auto.heads
-
-pub shape_of-seen-in-Used : goal.shape_of-seen-in-Used
-shape_of-seen-in-Used c = c.measure.auto.seen
-
-pub returns-in-Used : goal.returns-in-Used
-returns-in-Used c =
+pub returns-in-Ok : goal.returns-in-Ok
+returns-in-Ok c =
     let a = c.args in
     let p = c.requires in
     let said = c.measure in
-    c.write_rows.ensures ∙ goes_through (state_of a.writer) (lent_of a.output.now a.pool.now) (rows_in a.first.now a.second.now a.rows.now) p.pool_value p.pool_value_2 (unrefused a.first.now a.second.now a.output.now a.pool.now a.rows.now said.new.notes said.new.heads a.writer said.result said.ensures c.in-Used.used c.in-Used.is)
+    c.write_rows.ensures ∙ goes_through (state_of a.writer) (lent_of a.output.now a.pool.now) (rows_in a.first.now a.second.now a.rows.now) p.pool_value p.pool_value_2 (unrefused a.first.now a.second.now a.output.now a.pool.now a.rows.now said.new.notes said.new.heads a.writer said.result said.ensures c.in-Ok.used c.in-Ok.is)

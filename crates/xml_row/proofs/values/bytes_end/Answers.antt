@@ -1,17 +1,14 @@
-use Rattle.xml_row.proofs.Laws.{after_two, twice}
-use borrow.Author.Tests.{ne_eqb}
+use Rattle.std.proofs.Common.{sym, ap, ◌∙◌}
+use Rattle.wire.specs.Commands.{type_number}
 use Rattle.text.specs.Laws.{hex-length, base64-length}
 use Rattle.xml_spec.specs.Xml.{value_xml}
+use Rattle.xml_row.proofs.Laws.{after_two, twice}
 use Rattle.xml_row.proofs.values.bytes_end.Goals as goal
 
-pub returns-then-type_-eq-BYTES_HEX : goal.returns-then-type_-eq-BYTES_HEX
+pub returns-in-BytesHex : goal.returns-in-BytesHex
 unfolding value_xml
-returns-then-type_-eq-BYTES_HEX c = rw (c.if-type_-eq-BYTES_HEX.true, hex-length c.args.s.now, ← twice _) (after_two _ _ _ _ _ _ c.after.ensures c.after-then-type_-eq-BYTES_HEX.ensures)
+returns-in-BytesHex c = rw (sym c.from.ensures.0 ∙ ap type_number c.in-BytesHex.is, hex-length c.args.s.now, ← twice _) (after_two _ _ _ _ _ _ c.after.ensures c.after-in-BytesHex.ensures)
 
-pub returns-then-type_-eq-BYTES_BASE64 : goal.returns-then-type_-eq-BYTES_BASE64
+pub returns-in-BytesBase64 : goal.returns-in-BytesBase64
 unfolding value_xml
-returns-then-type_-eq-BYTES_BASE64 c = rw (c.if-type_-eq-BYTES_BASE64.true, base64-length c.args.s.now) c.base64_end.ensures
-
-pub returns : goal.returns
-unfolding value_xml
-returns c = rw (ne_eqb _ _ c.if-type_-eq-BYTES_HEX.false, ne_eqb _ _ c.if-type_-eq-BYTES_BASE64.false) c.escaped_end.ensures
+returns-in-BytesBase64 c = rw (sym c.from.ensures.0 ∙ ap type_number c.in-BytesBase64.is, base64-length c.args.s.now) c.base64_end.ensures

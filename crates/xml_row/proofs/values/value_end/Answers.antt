@@ -1,24 +1,14 @@
-use mathlib.Core.Path.{sym, ◌∙◌}
+use Rattle.std.proofs.Common.{sym, ◌∙◌}
 use Rattle.event.specs.declared.Shape.TheVariants as Shape
 use Rattle.event.specs.Row.{value_at}
-use Rattle.xml_row.proofs.Laws.{value_of}
+use Rattle.xml_row.proofs.Laws.{value_of, no-value, bytes-value}
 use Rattle.xml_row.proofs.values.value_end.Goals as goal
 
 pub returns-in-Nothing : goal.returns-in-Nothing
-unfolding value_at
-returns-in-Nothing c = rw (value_of c.args.first.now c.args.second.now c.args.w.now Shape.Nothing (sym c.shape_of.ensures ∙ c.in-Nothing.is)) c.mark_end.ensures
+returns-in-Nothing c = rw (no-value c.args.first.now c.args.second.now c.args.w.now _ c.in-Nothing.is (sym c.shape_of.ensures)) c.mark_end.ensures
 
 pub returns-in-String : goal.returns-in-String
-unfolding value_at
-returns-in-String c = rw (value_of c.args.first.now c.args.second.now c.args.w.now Shape.String (sym c.shape_of.ensures ∙ c.in-String.is), ← c.value_in.ensures) c.bytes_end.ensures
-
-pub returns-in-Interned : goal.returns-in-Interned
-unfolding value_at
-returns-in-Interned c = rw (value_of c.args.first.now c.args.second.now c.args.w.now Shape.Interned (sym c.shape_of.ensures ∙ c.in-Interned.is)) c.mark_end-in-Interned.ensures
-
-pub returns-in-Blob : goal.returns-in-Blob
-unfolding value_at
-returns-in-Blob c = rw (value_of c.args.first.now c.args.second.now c.args.w.now Shape.Blob (sym c.shape_of.ensures ∙ c.in-Blob.is), ← c.value_in-in-Blob.ensures) c.bytes_end-in-Blob.ensures
+returns-in-String c = rw (bytes-value c.args.first.now c.args.second.now c.args.w.now _ c.in-String.is (sym c.shape_of.ensures), ← c.value_in.ensures) c.bytes_end.ensures
 
 pub returns-in-Word : goal.returns-in-Word
 unfolding value_at
@@ -27,7 +17,3 @@ returns-in-Word c = rw (value_of c.args.first.now c.args.second.now c.args.w.now
 pub returns-in-Pair : goal.returns-in-Pair
 unfolding value_at
 returns-in-Pair c = rw (value_of c.args.first.now c.args.second.now c.args.w.now Shape.Pair (sym c.shape_of.ensures ∙ c.in-Pair.is)) c.pair_end.ensures
-
-pub returns-in-Unknown : goal.returns-in-Unknown
-unfolding value_at
-returns-in-Unknown c = rw (value_of c.args.first.now c.args.second.now c.args.w.now Shape.Unknown (sym c.shape_of.ensures ∙ c.in-Unknown.is)) c.mark_end-in-Unknown.ensures

@@ -1,7 +1,0 @@
-use mathlib.Core.Path.{refl}
-use Rattle.names.specs.Hash.{mix}
-use Rattle.names.proofs.mix.Goals as goal
-
-pub returns : goal.returns
-unfolding mix
-returns c = refl
