@@ -5,7 +5,6 @@ mod Keeps
 mod Pools
 mod Noting
 mod Bytes
-mod Parts
 mod Measures
 mod Turns
 mod Measuring
