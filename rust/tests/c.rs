@@ -84,17 +84,25 @@ fn upper_case(name: &str) -> String {
     told
 }
 
-/// The numbers of an enum of `wire`, each by its variant, as `number` tells them.
+/// The numbers of an enum of `wire`, each by its variant, as `number` tells them: as a number, or by a constant of the enum.
 fn numbers(wire: &str, of: &str) -> Vec<(String, String)> {
-    let (_, rest) = wire.split_once(&format!("impl {of} {{")).unwrap();
-    let (_, rest) = rest.split_once("pub fn number(self)").unwrap();
+    let (_, block) = wire.split_once(&format!("impl {of} {{")).unwrap();
+    let (_, rest) = block.split_once("pub fn number(self)").unwrap();
     let (arms, _) = rest.split_once("\n    }\n").unwrap();
+    let value = |constant: &str| {
+        let (_, rest) = block.split_once(&format!("pub const {constant}: u32 = "))?;
+        Some(rest.split_once(';')?.0)
+    };
     let arm = |line: &str| {
         let (variant, number) = line.trim().trim_end_matches(',').split_once(" => ")?;
-        let name = variant.strip_prefix(of)?.strip_prefix("::")?;
-        let name = name.split('(').next()?;
+        let own = |name: &str| name.strip_prefix(of)?.strip_prefix("::").map(str::to_owned);
+        let name = own(variant)?;
+        let number = match own(number) {
+            Some(constant) => value(&constant)?.to_owned(),
+            None => number.to_owned(),
+        };
         number.parse::<u32>().ok()?;
-        Some((upper_case(name), number.to_owned()))
+        Some((upper_case(name.split('(').next()?), number))
     };
     arms.lines().filter_map(arm).collect()
 }

@@ -206,11 +206,17 @@ fn show<'a>(
     requires { at ≤ length out.old }
     ensures { IfOk result (λ end. end ≤ length out.old) }
 {
-    if let Ok(len) = xml::to_xml(first, second, rows, &mut out[at..]) {
-        return Ok(at + len);
+    match xml::to_xml(first, second, rows, &mut out[at..]) {
+        Ok(len) => Ok(at + len),
+        Err(Refusal::OutputFull) => {
+            output.write_all(&out[..at])?;
+            show_first(output, first, second, rows, out)
+        }
+        Err(refusal) => {
+            output.write_all(&out[..at])?;
+            Err(Stopped::Refused(refusal))
+        }
     }
-    output.write_all(&out[..at])?;
-    show_first(output, first, second, rows, out)
 }
 
 // ---- the document

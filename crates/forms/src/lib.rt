@@ -78,7 +78,9 @@ fn value_forms(valued: bool, row: &[u32; 8]) -> bool
 }
 
 // A row, its spans in two stores; inside says that an attribute may stand here. Kinds are told apart by branches, since
-// rows of a kind come in runs; types are not. Kinds stay numbers: `Command::from` takes 1.4 times as long on tags.
+// rows of a kind come in runs; types are not. Kinds stay numbers: `Command::from` takes 1.4 times as long on tags. A call for each row takes
+// half as long again.
+#[inline(always)]
 #[tactic(auto, using(crate::proofs::Rows::zeros_of_part), unfolding(event::specs::Words::row_forms_in, event::specs::Words::row_forms, event::specs::Words::attribute_forms))]
 fn row_forms_in<'a>(stores: Stores<'a>, inside: bool, row: &[u32; 8]) -> bool
     ensures { result ≡ row_forms_in stores.entry.first.now stores.entry.second.now inside row.now }
@@ -109,7 +111,9 @@ fn opens_attributes(kind: u32) -> bool
     matches!(kind, Command::START_TAG | Command::ATTRIBUTE)
 }
 
-// Whether words form an event list: whole rows, each formed, with every span inside its store.
+// Whether words form an event list: whole rows, each formed, with every span inside its store. A loop of its own: as a part of the writer it
+// would take registers from the writer's.
+#[inline(never)]
 pub fn list_forms(first: &[u8], second: &[u8], rows: &[u32]) -> bool
     ensures { result ≡ list_forms first.now second.now rows.now }
 {

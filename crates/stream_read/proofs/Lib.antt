@@ -1,1 +1,4 @@
 mod Events
+mod Needs
+mod Whole
+mod Along

@@ -1,9 +1,10 @@
 // A chunk reader over input that is read as it needs more.
 #![tactic(auto)]
 
-ghost use Rattle.std.specs.Prelude.{◌≡◌, ◌*◌, ◌≤◌, length, IfOk, IfSome};
+ghost use Rattle.std.specs.Prelude.{◌≡◌, ◌-◌, ◌*◌, ◌≤◌, ◌<◌, min, length, IfOk, IfSome};
 ghost use Rattle.stream.specs.Answers.{stream_of, lend};
 ghost use Rattle.stream_read.specs.Onward.{Onward};
+ghost use Rattle.stream_read.specs.Fetched.{Fetches};
 ghost use Rattle.stream_read.specs.declared.ReadError.TheVariants.{Refused, Failed};
 
 use std::io;
@@ -36,7 +37,8 @@ impl From<io::Error> for ReadError {
 
 // How many bytes the window has room for, at most so many.
 fn room(reader: Stream, window: usize, most: usize) -> usize
-    ensures { result ≤ most }
+    ensures within { result ≤ most }
+    ensures exact { reader.start ≤ reader.end → result ≡ min (window - (reader.end - reader.start)) most }
 {
     let waiting = reader.end.checked_sub(reader.start);
     let free = waiting.and_then(|waiting| window.checked_sub(waiting));
@@ -52,6 +54,7 @@ fn read_by<R: Read>(
     table: &[u32],
     store: &[u8],
 ) -> Result<Stream, ReadError>
+    requires { 0 < length chunk.old }
     ensures { Onward (R.remaining input.old) (R.remaining input.new) reader (lend window.old table.now store.now) (lend window.new table.now store.now) result }
 {
     let most = room(reader, window.len(), chunk.len());
@@ -85,7 +88,8 @@ pub struct Event {
     pub reader: Stream,
 }
 
-// The next event; none at the input's end. The turns do not run out: each takes a byte of the input, but for the last.
+// The next event; none at the input's end. The reads are counted, so that the turns end: each but the last takes a byte, and no input has so
+// many.
 pub fn next_event<R: Read>(
     input: &mut R,
     start: Stream,
@@ -94,10 +98,12 @@ pub fn next_event<R: Read>(
     store: &mut [u8],
     rows: &mut [u32],
 ) -> Result<Option<Event>, ReadError>
-    ensures { IfOk result (λ found. IfSome found (λ event. 8 * event.rows ≤ length rows.old)) }
+    ensures fetches { Fetches (R.remaining input.old) (R.remaining input.new) start (lend window.old table.old store.old) (lend window.new table.new store.new) rows.old rows.new result }
+    ensures within { IfOk result (λ found. IfSome found (λ event. 8 * event.rows ≤ length rows.old)) }
 {
     let mut reader = start;
-    for _ in 0..u64::MAX {
+    let mut reads: u64 = 0;
+    loop {
         match stream_next::next(reader, window, table, store, rows)? {
             Answer::Event {
                 rows: count,
@@ -109,6 +115,10 @@ pub fn next_event<R: Read>(
                 }));
             }
             Answer::NeedMore(stream) => {
+                if reads == u64::MAX {
+                    return Err(ReadError::Failed);
+                }
+                reads += 1;
                 reader = read_on(input, stream, window, table, store)?;
             }
             Answer::End(_) => {
@@ -116,5 +126,4 @@ pub fn next_event<R: Read>(
             }
         }
     }
-    Ok(None)
 }

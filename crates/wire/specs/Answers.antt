@@ -35,7 +35,7 @@ number_of R.BadSignOn = Named.bad_sign_on
 number_of R.BadTolerance = Named.bad_tolerance
 number_of R.BadIdleLimit = Named.bad_idle_limit
 number_of R.BadUse = Named.bad_use
-number_of (R.Other number _) = number
+number_of (R.Other other) = other.number
 
 abbrev pub detail_of : Refusal → ℕ
 detail_of (R.InvalidMagic found) = found
@@ -43,5 +43,5 @@ detail_of (R.BadInternedIndex index) = index
 detail_of (R.UnknownAttributeType type) = type
 detail_of (R.UnknownCommand command) = command
 detail_of (R.ValueTooLong len) = len
-detail_of (R.Other _ detail) = detail
+detail_of (R.Other other) = other.detail
 detail_of _ = 0

@@ -1,5 +1,5 @@
 -- The numbers of the refusals: document 01, "Refusals by place", to 19, and the papers of document 02 from 20 on. A detail is 0 unless one is named.
-use Rattle.std.specs.Prelude.{List, [], ◌∷◌, ℕ}
+use Rattle.std.specs.Prelude.{Bool, ◌&&◌, ◌||◌, List, [], ◌∷◌, ℕ, eqb, leb}
 
 -- ---- header
 
@@ -143,3 +143,14 @@ refusals =
     ∷ rows_full ∷ pool_full ∷ names_full ∷ window_full ∷ value_too_long ∷ output_full ∷ not_rows ∷ bad_size ∷ already_finished ∷ bad_state
     ∷ illegal_char ∷ part_missing ∷ no_such_version ∷ store_full ∷ exercise_too_long ∷ caller_limit ∷ bad_token_table ∷ bad_sign_on ∷ bad_tolerance ∷ bad_idle_limit
     ∷ bad_use ∷ []
+
+-- ---- numbers with their details
+
+-- the refusals of these numbers have a detail
+abbrev pub has_detail : ℕ → Bool
+has_detail number =
+    eqb number invalid_magic || (eqb number bad_interned_index || (eqb number unknown_attribute_type || (eqb number unknown_command || eqb number value_too_long)))
+
+-- a refusal of the list has this number and this detail
+abbrev pub is_named : ℕ → ℕ → Bool
+is_named number detail = has_detail number || (leb header_short number && (leb number bad_use && eqb detail 0))

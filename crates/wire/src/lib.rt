@@ -3,6 +3,7 @@
 
 pub mod limits;
 pub mod tokens;
+pub mod unnamed;
 
 ghost use Rattle.std.specs.Prelude.{◌≡◌};
 ghost use Rattle.wire.specs.Token.{command_in, type_in, commands, types};
@@ -10,6 +11,8 @@ ghost use Rattle.wire.specs.Refusal.{refusals};
 ghost use Rattle.wire.specs.Answers.{number_of, detail_of};
 ghost use Rattle.wire.specs.Commands.{command_number, IsCommand, type_number, IsType};
 ghost use Rattle.wire.specs.Header.{u32_of};
+
+use unnamed::Unnamed;
 
 // The index that means a new name follows.
 pub const INTERNED_NEW: u32 = 65535;
@@ -72,18 +75,18 @@ impl Command {
         ensures { result ≡ command_number self }
     {
         match self {
-            Command::StartDocument => 0,
-            Command::EndDocument => 1,
-            Command::StartTag => 2,
-            Command::EndTag => 3,
-            Command::Text => 4,
-            Command::Cdata => 5,
-            Command::EntityRef => 6,
-            Command::IgnorableWhitespace => 7,
-            Command::ProcessingInstruction => 8,
-            Command::Comment => 9,
-            Command::DocDecl => 10,
-            Command::Attribute => 15,
+            Command::StartDocument => Command::START_DOCUMENT,
+            Command::EndDocument => Command::END_DOCUMENT,
+            Command::StartTag => Command::START_TAG,
+            Command::EndTag => Command::END_TAG,
+            Command::Text => Command::TEXT,
+            Command::Cdata => Command::CDATA,
+            Command::EntityRef => Command::ENTITY_REF,
+            Command::IgnorableWhitespace => Command::IGNORABLE_WHITESPACE,
+            Command::ProcessingInstruction => Command::PROCESSING_INSTRUCTION,
+            Command::Comment => Command::COMMENT,
+            Command::DocDecl => Command::DOC_DECL,
+            Command::Attribute => Command::ATTRIBUTE,
             Command::Unknown(number) => number,
         }
     }
@@ -192,19 +195,19 @@ impl Type {
         ensures { result ≡ type_number self }
     {
         match self {
-            Type::Null => 1,
-            Type::String => 2,
-            Type::StringInterned => 3,
-            Type::BytesHex => 4,
-            Type::BytesBase64 => 5,
-            Type::Int => 6,
-            Type::IntHex => 7,
-            Type::Long => 8,
-            Type::LongHex => 9,
-            Type::Float => 10,
-            Type::Double => 11,
-            Type::BooleanTrue => 12,
-            Type::BooleanFalse => 13,
+            Type::Null => Type::NULL,
+            Type::String => Type::STRING,
+            Type::StringInterned => Type::STRING_INTERNED,
+            Type::BytesHex => Type::BYTES_HEX,
+            Type::BytesBase64 => Type::BYTES_BASE64,
+            Type::Int => Type::INT,
+            Type::IntHex => Type::INT_HEX,
+            Type::Long => Type::LONG,
+            Type::LongHex => Type::LONG_HEX,
+            Type::Float => Type::FLOAT,
+            Type::Double => Type::DOUBLE,
+            Type::BooleanTrue => Type::BOOLEAN_TRUE,
+            Type::BooleanFalse => Type::BOOLEAN_FALSE,
             Type::Unknown(number) => number,
         }
     }
@@ -318,7 +321,7 @@ pub enum Refusal {
     // A use that lacks an Int, or is out of range or out of order.
     BadUse,
     // Any other number and detail: a caller may ask for the words of a refusal that no call gives.
-    Other { number: u32, detail: u32 },
+    Other(Unnamed),
 }
 
 impl Refusal {
@@ -357,7 +360,22 @@ impl Refusal {
             28 => Refusal::BadTolerance,
             29 => Refusal::BadIdleLimit,
             30 => Refusal::BadUse,
-            _ => Refusal::Other { number, detail: 0 },
+            _ => Refusal::Other(Unnamed { number, detail: 0 }),
+        }
+    }
+
+    // The refusal of this number and detail.
+    pub fn of(number: u32, detail: u32) -> Refusal
+        ensures { (number_of result ≡ number) × (detail_of result ≡ detail) }
+    {
+        match number {
+            2 => Refusal::InvalidMagic(detail),
+            6 => Refusal::BadInternedIndex(detail),
+            8 => Refusal::UnknownAttributeType(detail),
+            9 => Refusal::UnknownCommand(detail),
+            14 => Refusal::ValueTooLong(detail),
+            _ if detail == 0 => Refusal::new(number),
+            _ => Refusal::Other(Unnamed { number, detail }),
         }
     }
 
@@ -396,7 +414,7 @@ impl Refusal {
             Refusal::BadTolerance => 28,
             Refusal::BadIdleLimit => 29,
             Refusal::BadUse => 30,
-            Refusal::Other { number, detail: _ } => number,
+            Refusal::Other(other) => other.number,
         }
     }
 
@@ -410,7 +428,7 @@ impl Refusal {
             Refusal::UnknownAttributeType(type_) => type_,
             Refusal::UnknownCommand(command) => command,
             Refusal::ValueTooLong(len) => len,
-            Refusal::Other { number: _, detail } => detail,
+            Refusal::Other(other) => other.detail,
             _ => 0,
         }
     }

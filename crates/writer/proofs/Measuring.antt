@@ -3,8 +3,9 @@ use mathlib.Core.Bool.{Bool, true, false}
 use mathlib.Core.Option.{Option, none, some}
 use Rattle.std.specs.Prelude.{Result, Ok, Err}
 use mathlib.Core.List.{List, [], ◌∷◌, ◌++◌, append-nil, append_assoc}
-use mathlib.Core.Path.{◌≡◌, sym, ap, ◌∙◌}
-use Prim.Native.Nat.{ℕ, ◌+◌, ◌-◌, ◌%◌, ◌≤◌, ◌<◌}
+use mathlib.Core.Path.{◌≡◌, refl, sym, ap, ◌∙◌}
+use Prim.Native.Nat.{ℕ, ◌+◌, ◌*◌, ◌-◌, ◌%◌, ◌≤◌, ◌<◌}
+use borrow.Author.Tests.{le-ltb}
 use native.Mathlib.Nat.{sub-zero}
 use native.Mathlib.Omega.{arith}
 use lib.ListN.{length, take, drop, length-drop}
@@ -30,7 +31,10 @@ use Rattle.writer.specs.declared.Stop.TheVariants.{Refused, Crowded}
 use Rattle.writer.specs.declared.measure.Tally.{Tally}
 use Rattle.writer.proofs.Pools.{row-full}
 use Rattle.writer.proofs.Noting.{noted-none}
-use Rattle.writer.proofs.Turns.{rest, rest_more, rest-ends, rest_end, capped_small, refusal-capped, room-is, stops-row, stops-room, goes_in, goes-past}
+use Rattle.writer.proofs.Turns.{ends_last, rest, rest_more, rest-ends, rest_end, capped_small, refusal-capped, room-is, stops-row, stops-room, goes_in, goes-past}
+
+some≢none : {f : ℕ × ℕ} → ◌≡◌ {A = Option (ℕ × ℕ)} (some f) none → ⊥
+some≢none h = let z : ◌≡◌ {A = ℕ} 0 1 = cc h in omega arith
 
 -- ---- names that are settled stay so
 
@@ -94,6 +98,23 @@ module _ (first second output table rows : List ℕ) (kept written : ℕ) where
         used-fits = omega arith;
         at_small = omega arith;
       }
+
+  -- Before each row, and after the last, stands whether an event ends there and has room for it; then holds what measuring the next
+  -- row asks for.
+  abbrev pub Owing : ℕ → Tally → List ℕ → List ℕ → Type 0
+  Owing row t notes heads =
+      (over : Bool) → over ≡ ends_at rows row
+      → (over ≡ false → Measuring row t notes heads)
+      × ((f : Result Unit Wire.Refusal) → over ≡ true → fault_of f ≡ room_of (length output) (length table) t.at t.names
+      → ((x : Wire.Refusal) → f ≡ Err x → Whole ≡ some (number_of x, detail_of x)) × (f ≡ Ok tt → Measuring row t notes heads))
+
+  -- before the first row there is room for what is written
+  pub owes_nothing : (notes heads : List ℕ) → written ≤ length output → 2 * kept ≤ length table
+      → Measuring 0 (record { at = written; names = kept; used = 0 }) notes heads → Owing 0 (record { at = written; names = kept; used = 0 }) notes heads
+  unfolding room_of
+  owes_nothing notes heads h g m over is =
+      let fits : room_of (length output) (length table) written kept ≡ none = rw (le-ltb (length table) (2 * kept) g, le-ltb (length output) written h) refl in
+      (λ b. m, λ f b room. (λ x d. absurd (some≢none (sym (ap fault_of d) ∙ room ∙ fits)), λ d. m))
 
   module _ (row : ℕ) (t : Tally) (notes heads : List ℕ) (m : Measuring row t notes heads) where
     abbrev pool : Pool
@@ -199,6 +220,10 @@ module _ (first second output table rows : List ℕ) (kept written : ℕ) where
             pub row_last : length output ≤ max_store → f ≡ Ok tt → Measuring (row + 8) u notes' heads'
             row_last small d = goes-on-past u notes' heads' taken.0 taken.1 small (sym is ∙ b) (sym room ∙ ap fault_of d)
 
+        -- the row takes so much, and then stands whether an event ends after it
+        pub owes : length output ≤ max_store → (u : Tally) → r ≡ Ok u → Owing (row + 8) u notes' heads'
+        owes small u e over is = (row_inside u e over is small, λ f b room. (room-refused u e over is b f room, row_last u e over is b f room small))
+
     -- all rows are measured
     pub ended : length rows ≤ row → MeasureSays first second output table kept written all notes heads (Ok t.used)
     unfolding rows_refusal
@@ -209,3 +234,12 @@ module _ (first second output table rows : List ℕ) (kept written : ℕ) where
         let knows : Known first second output table kept (keep_rows pool₀ all) (take t.used notes) heads = rw all_done at m.knows in
         let settled : AllSettled first second (keep_rows pool₀ all) (take t.used notes) all = rw all_done at m.settled in
         (m.used-fits, sym passed, knows, settled)
+
+  -- all rows are measured, and the last event has room or not
+  pub ended_with : (row : ℕ) (t : Tally) (notes heads : List ℕ) → Owing row t notes heads → length rows ≤ row
+      → (f : Result Unit Wire.Refusal) → fault_of f ≡ room_of (length output) (length table) t.at t.names
+      → ((x : Wire.Refusal) → f ≡ Err x → Whole ≡ some (number_of x, detail_of x))
+      × (f ≡ Ok tt → MeasureSays first second output table kept written all notes heads (Ok t.used))
+  ended_with row t notes heads o h f room =
+      let last = (o true (ends_last rows row h)).1 f refl room in
+      (last.0, λ d. ended row t notes heads (last.1 d) h)

@@ -3,16 +3,19 @@ use mathlib.Core.Bool.{Bool, true, false}
 use mathlib.Core.Option.{none, some}
 use mathlib.Core.List.{List, [], ◌∷◌}
 use mathlib.Core.Path.{◌≡◌, refl, sym, ap, ◌∙◌}
-use Prim.Native.Nat.{ℕ, suc, ◌+◌, ◌-◌, ◌/◌, ◌%◌, ◌≤◌, ◌<◌}
+use Prim.Native.Nat.{ℕ, suc, ◌+◌, ◌*◌, ◌-◌, ◌/◌, ◌%◌, ◌≤◌, ◌<◌}
 use native.Mathlib.Nat.{add-zero}
 use native.Mathlib.Omega.{arith}
 use borrow.Author.Tests.{lt-ltb, le-ltb, ltb-true, ltb-false}
 use lib.Dec.{ltb}
-use lib.ListN.{length, get_or, take, drop, length-drop}
+use lib.ListN.{length, get_or, take, drop, length-drop, length-take}
+use Rattle.std.proofs.lemmas.List.{get_or-take}
 use lib.Seq.{take_all, drop-drop, get_or-drop}
 use Rattle.event.specs.Row.{Row, row_at, rows_at}
 use Rattle.event.specs.Words.{row_forms_in, opens, rows_form}
 use Rattle.event.specs.Laws.{both}
+use Rattle.event.proofs.Rows.{row-of-words}
+use Rattle.std.specs.Simd.{first_chunks}
 use Rattle.grammar.specs.Document.{Pool}
 use Rattle.grammar.proofs.Choice.{by_test}
 use Rattle.writer_spec.specs.Encode.{row_bytes, keep_row}
@@ -21,28 +24,31 @@ use Rattle.writer.specs.Passes.{room_of, capped, ends_at}
 
 -- ---- the rows from a place on
 
--- what is left of the rows is that from a place on, of which something holds
-pub record From (rows left : List ℕ) (P : ℕ → Type 0) : Type 0 where
-  pub at : ℕ
-  pub is : left ≡ drop at rows
-  pub here : P at
+-- the row of a turn is the eight words from its place on
+pub row_here : (rows : List ℕ) (whole : List (List ℕ)) (k : ℕ) (d : List ℕ) → whole ≡ first_chunks 8 (length rows / 8) rows → k < length rows / 8
+    → (k * 8 < length rows) × (get_or whole k d ≡ take 8 (drop (k * 8) rows))
+row_here rows whole k d e h = (omega arith, rw e (row-of-words (length rows / 8) k rows d h))
 
--- and from the row after that on
-pub next_left : (rows left left' : List ℕ) (at : ℕ) → left ≡ drop at rows → left' ≡ drop 8 left → left' ≡ drop (at + 8) rows
-next_left rows left left' at e f = f ∙ ap (drop 8) e ∙ drop-drop 8 at rows
+-- and the next row's place is eight words on
+pub next_row : (k : ℕ) → (k + 1) * 8 ≡ k * 8 + 8
+next_row k = omega arith
 
-pub ends_left : (rows left : List ℕ) (at : ℕ) → left ≡ drop at rows → ends_at left 0 ≡ ends_at rows at
+-- an event ends before the row of a turn, or before none
+pub ends_here : (rows words : List ℕ) (at : ℕ) → at < length rows → words ≡ take 8 (drop at rows) → ends_at words 0 ≡ ends_at rows at
 unfolding ends_at
-ends_left rows left at e =
-    rw (e, get_or-drop at rows 0 0, add-zero at)
-    (by_test (ltb at (length rows)) (λ t. rw (t, lt-ltb 0 (length (drop at rows)) (omega (arith, length-drop at rows, ltb-true at (length rows) t))) refl)
-    (λ t. rw (t, le-ltb 0 (length (drop at rows)) (omega (arith, length-drop at rows, ltb-false at (length rows) t))) refl))
+ends_here rows words at h e =
+    rw (
+      e,
+      get_or-take 8 (drop at rows) 0 0 (omega arith),
+      get_or-drop at rows 0 0,
+      add-zero at,
+      lt-ltb at (length rows) h,
+      lt-ltb 0 (length (take 8 (drop at rows))) (omega (arith, length-take 8 (drop at rows), length-drop at rows)),
+    ) refl
 
-pub more_left : (rows left : List ℕ) (at : ℕ) → left ≡ drop at rows → (n : ℕ) → n + 8 ≡ length left → at < length rows
-more_left rows left at e n h = omega (arith, ap length e, length-drop at rows)
-
-pub none_left : (rows left : List ℕ) (at : ℕ) → left ≡ drop at rows → at % 8 ≡ 0 → length rows % 8 ≡ 0 → length left < 8 → length rows ≤ at
-none_left rows left at e a w h = omega (arith, ap length e, length-drop at rows)
+pub ends_last : (rows : List ℕ) (at : ℕ) → length rows ≤ at → true ≡ ends_at rows at
+unfolding ends_at
+ends_last rows at h = rw (le-ltb at (length rows) h) refl
 
 module _ (first second rows : List ℕ) (at : ℕ) where
   abbrev pub rest : List Row

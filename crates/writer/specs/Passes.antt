@@ -53,6 +53,11 @@ call_fault formed w l = refuse_if (sizes_bad l) bad_size before refuse_if (state
 
 -- ---- measuring
 
+-- what has been measured after a row, or why it stops
+abbrev pub tally_of : Result Unit Stop → Tally → Result Tally Stop
+tally_of (Ok _) t = Ok t
+tally_of (Err s) t = Err s
+
 module _ (first second : List ℕ) where
   -- a name that has no note is not in the pool, and will not be
   abbrev pub Settled : Pool → List ℕ → List ℕ → Type 0

@@ -10,7 +10,7 @@ ghost use Rattle.writer.specs.Answers.{fault_of, placed_by, name_found_of};
 ghost use Rattle.slots.specs.Slots.{slot_of, Fresh};
 ghost use Rattle.pool_index.specs.Index.{MaybeIndexed};
 ghost use Rattle.writer.specs.Notes.{Unnoted};
-ghost use Rattle.writer.specs.Passes.{name_refusal, room_of, capped, ends_at, Slots, Kept, NameMeasured, RowNameMeasured, RowMeasured, MeasureSays};
+ghost use Rattle.writer.specs.Passes.{name_refusal, room_of, capped, ends_at, Slots, Kept, NameMeasured, RowNameMeasured, RowMeasured, MeasureSays, tally_of};
 
 use crate::{Stop, Writer, notes, sizes};
 use pool_search::BadPair;
@@ -203,7 +203,8 @@ fn capped(limit: usize, at: usize) -> usize
     at
 }
 
-// The row that eight words say, after what has been measured.
+// The row that eight words say, after what has been measured. The tally is lent and a name's size matched: as answers that `?` takes
+// they would be copied in parts that later loads wait for, a tenth more instructions for each row.
 fn measure_row<'a>(
     first: &'a [u8],
     second: &'a [u8],
@@ -211,21 +212,21 @@ fn measure_row<'a>(
     output: &[u8],
     pool: &[u32],
     kept: usize,
-    tally: Tally,
+    tally: &mut Tally,
     notes: &mut [u32],
     heads: &mut [u16],
     seen: &mut [u16],
     index: &[u16],
-) -> Result<Tally, Stop>
+) -> Result<(), Stop>
     requires maybe_indexed { MaybeIndexed output.now pool.now kept index.now }
-    requires output_len_bound { (length output.now ≤ max_store) × (tally.at ≤ max_store + 1) }
+    requires output_len_bound { (length output.now ≤ max_store) × (tally.old.at ≤ max_store + 1) }
     requires kept_in_bounds { 2 * kept ≤ length pool.now }
-    requires used_in_bounds { tally.used ≤ length notes.old }
+    requires used_in_bounds { tally.old.used ≤ length notes.old }
     requires slots { Slots (length heads.old) × Slots (length seen.old) }
-    requires kept { Kept first.now second.now output.now pool.now kept tally.names (take tally.used notes.old) heads.old }
-    ensures { RowMeasured first.now second.now output.now pool.now kept (row_at first.now second.now w.now) tally notes.old heads.old notes.new heads.new result }
+    requires kept { Kept first.now second.now output.now pool.now kept tally.old.names (take tally.old.used notes.old) heads.old }
+    ensures { RowMeasured first.now second.now output.now pool.now kept (row_at first.now second.now w.now) tally.old notes.old heads.old notes.new heads.new (tally_of result tally.new) }
 {
-    let name = quick_name_size(
+    let name = match quick_name_size(
         first,
         second,
         w,
@@ -238,13 +239,21 @@ fn measure_row<'a>(
         heads,
         seen,
         index,
-    )?;
-    let more = sizes::value_size(first, second, w)?;
-    Ok(Tally {
-        at: capped(output.len(), tally.at + 1 + name.size + more),
-        names: name.names,
-        used: name.used,
-    })
+    ) {
+        Ok(name) => name,
+        Err(stop) => return Err(stop),
+    };
+    match sizes::value_size(first, second, w) {
+        Ok(more) => {
+            *tally = Tally {
+                at: capped(output.len(), tally.at + 1 + name.size + more),
+                names: name.names,
+                used: name.used,
+            };
+            Ok(())
+        }
+        Err(r) => Err(Stop::Refused(r)),
+    }
 }
 
 // Whether an event ends before these rows.
@@ -253,7 +262,7 @@ fn is_event_end(rest: &[u32]) -> bool
     ensures { result ≡ ends_at rest.now 0 }
 {
     match rest.first() {
-        Some(kind) => !matches!(Command::from(*kind), Command::Attribute),
+        Some(kind) => *kind != Command::ATTRIBUTE,
         None => true,
     }
 }
@@ -298,15 +307,15 @@ pub(crate) fn measure<'a>(
         names: kept,
         used: 0,
     };
-    let mut rest = rows;
-    while let Some((w, after)) = rest.split_first_chunk::<8>() {
-        tally = measure_row(
-            first, second, w, output, pool, kept, tally, notes, heads, seen, index,
-        )?;
-        rest = after;
-        if is_event_end(rest) {
+    let (whole, _) = rows.as_chunks::<8>();
+    for w in whole {
+        if is_event_end(w) {
             room_fault(output, pool, tally.at, tally.names)?;
         }
+        measure_row(
+            first, second, w, output, pool, kept, &mut tally, notes, heads, seen, index,
+        )?;
     }
+    room_fault(output, pool, tally.at, tally.names)?;
     Ok(tally.used)
 }

@@ -12,11 +12,11 @@ use Rattle.xml_chars.specs.Scan.{clean, clean-on, legal-is}
 use Rattle.xml_chars.specs.Reading.{printable}
 
 -- each octet is a legal character
-sound : (s : List ℕ) → ByRecursion (λ x. true ≡ printable x) s → (octets [] s ≡ true) × (clean s ≡ true)
+sound : (s : List ℕ) → ByRecursion (λ x. printable x ≡ true) s → (octets [] s ≡ true) × (clean s ≡ true)
 unfolding octets clean
 sound [] p = (refl, refl)
 sound (x ∷ s) p =
-    let e = (and-eq-true_iff (leb 32 x) _).0 (sym p.0) in
+    let e = (and-eq-true_iff (leb 32 x) _).0 p.0 in
     let h = leb-true 32 x e.0 in
     let l = ltb-true x 128 e.1 in
     let r = sound s p.1 in
@@ -36,6 +36,6 @@ pub by-places : (s : List ℕ) (b : Bool) → well_formed s ≡ true → clean s
 unfolding string_fault
 by-places s b e c = rw (e, legal-is s e, c)
 
-pub all_printable : (s : List ℕ) → All (λ x. true ≡ printable x) s → string_fault s ≡ 0
+pub all_printable : (s : List ℕ) → All (λ x. printable x ≡ true) s → string_fault s ≡ 0
 unfolding well_formed
 all_printable s p = let r = sound s (recursion_from_All _ s p) in by-places s true r.0 r.1

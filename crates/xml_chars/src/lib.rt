@@ -11,10 +11,14 @@ ghost use Rattle.xml_chars.specs.Answers.{fault_of};
 use wire::Refusal;
 
 // Printable ASCII or DEL, which most strings are.
-fn is_printable(b: u8) -> bool
-    ensures { result ≡ printable b }
-{
-    (0x20 <= b) & (b < 0x80)
+struct Printable;
+
+impl octets::Test for Printable {
+    ghost passed = { printable };
+
+    fn passes(b: u8) -> bool {
+        (0x20 <= b) & (b < 0x80)
+    }
 }
 
 // ---- illegal characters of well-formed strings: C0 controls but tab, line feed and carriage return, U+FFFE and U+FFFF
@@ -84,7 +88,7 @@ pub fn fault(s: &[u8]) -> Result<(), Refusal>
     ensures fault { fault_of result ≡ string_fault s.now }
     ensures refusal { IfErr result (λ r. (r ≡ InvalidUtf8) ⊎ (r ≡ IllegalChar)) }
 {
-    if octets::all_pass(s, is_printable) {
+    if octets::all_pass::<Printable>(s) {
         return Ok(());
     }
     if !utf8::is_utf8(&s[0..]) {

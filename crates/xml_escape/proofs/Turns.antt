@@ -45,8 +45,8 @@ bare-each s p = escape-bare s (none s p)
     none (x ∷ s) p = let e = none s p.1 in let f = p.0 in omega arith
 
 -- by a quick look
-pub plain-all : (s : List ℕ) → All (λ x. true ≡ plain x) s → escape s ≡ s
-plain-all s p = bare-each s (recursion_from_All _ s (λ k d h. extra-plain (get_or s k d) (sym (p k d h))))
+pub plain-all : (s : List ℕ) → All (λ x. plain x ≡ true) s → escape s ≡ s
+plain-all s p = bare-each s (recursion_from_All _ s (λ k d h. extra-plain (get_or s k d) (p k d h)))
 
 -- blocks of which none is escaped
 pub bare-none : (s : List ℕ) (i : ℕ) → i ≤ length s → Bare s i i

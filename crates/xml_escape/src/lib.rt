@@ -107,10 +107,14 @@ fn put_mixed(s: &[u8], out: &mut [u8], at: usize) -> usize
 
 // Whether an octet is one of the many that are not escaped: a quick look at a short string, which mostly has no other. The tests are
 // few, so that the compiler looks at a block at once.
-fn is_plain(b: u8) -> bool
-    ensures { result ≡ plain b }
-{
-    ((0x28 <= b) | (b == b' ')) & (b != b'<') & (b != b'>')
+struct Plain;
+
+impl octets::Test for Plain {
+    ghost passed = { plain };
+
+    fn passes(b: u8) -> bool {
+        ((0x28 <= b) | (b == b' ')) & (b != b'<') & (b != b'>')
+    }
 }
 
 // ---- the string. Parts from 0 on are passed: the string itself would be stored at the start, and waited for.
@@ -119,7 +123,7 @@ fn is_plain(b: u8) -> bool
 pub fn escaped_end(s: &[u8], limit: usize, at: usize) -> usize
     ensures { result ≡ after limit at (length (escape s.now)) }
 {
-    if octets::all_pass(&s[0..], is_plain) {
+    if octets::all_pass::<Plain>(&s[0..]) {
         return text::after(limit, at, s.len());
     }
     mixed_end(&s[0..], limit, at)
@@ -129,7 +133,7 @@ pub fn escaped_end(s: &[u8], limit: usize, at: usize) -> usize
 pub fn put_escaped(s: &[u8], out: &mut [u8], at: usize) -> usize
     ensures { Put out.old at (escape s.now) out.new result }
 {
-    if octets::all_pass(&s[0..], is_plain) {
+    if octets::all_pass::<Plain>(&s[0..]) {
         return text::put(&s[0..], out, at);
     }
     put_mixed(&s[0..], out, at)

@@ -1,8 +1,10 @@
-use Rattle.std.proofs.Common.{arith, rules, ◌≡◌, ◌<◌, ◌+◌, length, take, Err, refl, ap, ◌∙◌}
+use Rattle.writer.specs.Passes.{tally_of}
+use Rattle.std.proofs.Common.{arith, rules, ap, ◌≡◌, ◌*◌, Err, refl, ◌∙◌, []}
 use Rattle.writer.specs.declared.Stop.TheVariants.{Refused}
 use Rattle.writer.proofs.Calls.{slots_kept}
-use Rattle.writer.proofs.Turns.{more_left, next_left, ends_left, none_left}
-use Rattle.writer.proofs.Measuring.{begins, kept_here, row-stopped, row_inside, room-refused, row_last, ended}
+use Rattle.writer.proofs.Turns.{row_here, next_row, ends_here}
+use Rattle.writer.proofs.Measuring.{Measuring, begins, owes_nothing, kept_here, row-stopped, owes, ended_with}
+use Rattle.writer.proofs.measure.measure.Goals.{then-is_event_end+in_ok-room_fault, else-is_event_end}
 use Rattle.writer.proofs.measure.measure.Goals as goal
 
 pub loop-w-init : goal.loop-w-init
@@ -10,85 +12,78 @@ loop-w-init c =
     let a = c.args in
     let p = c.requires in
     let start = begins a.first.now a.second.now a.output.now a.pool.now a.rows.now a.writer.names a.writer.written a.notes.now a.heads.now p.slots.1 (omega (arith, p.output_len_bound.0, p.output_len_bound.1)) in
-    (record { at = 0; is = refl; here = start }, refl, refl, refl)
-
-pub measure_row-requires : goal.measure_row-requires
-measure_row-requires c =
-    let a = c.args in
-    let p = c.requires in
-    let l = c.loop-w in
-    let f = l.invariant.0 in
-    record { maybe_indexed = p.maybe_indexed; output_len_bound = (p.output_len_bound.0, f.here.at_small); kept_in_bounds = p.names_in_bounds.0; used_in_bounds = f.here.used-fits; slots = (slots_kept _ _ l.invariant.2 p.slots.0, slots_kept _ _ l.invariant.3 p.slots_2); kept = kept_here a.first.now a.second.now a.output.now a.pool.now a.rows.now a.writer.names a.writer.written f.at l.tally l.notes l.heads f.here p.names_in_bounds.1 }
-
-pub returns-in_err-tally : goal.returns-in_err-tally
-returns-in_err-tally c =
-    let a = c.args in
-    let p = c.requires in
-    let l = c.loop-w in
-    let f = l.invariant.0 in
-    let said = c.measure_row in
-    let split = rw c.in-Some.is at c.split_first_chunk.ensures.cases in
-    let front = split.0 ∙ ap (take 8) f.is in
-    let h : f.at < length a.rows.now = more_left a.rows.now l.rest.now f.at f.is _ split.2 in
-    let e : c.from_residual.result ≡ Err c.in_err-tally.field-0.0 = search rules in
-    rw e (row-stopped a.first.now a.second.now a.output.now a.pool.now a.rows.now a.writer.names a.writer.written f.at l.tally l.notes l.heads f.here h p.rows_len c.in-Some.w.now front said.result said.new.notes said.new.heads said.ensures c.in_err-tally.field-0.0 c.in_err-tally.was)
+    (owes_nothing a.first.now a.second.now a.output.now a.pool.now a.rows.now a.writer.names a.writer.written a.notes.now a.heads.now p.output_len_bound.1 p.names_in_bounds.0 start, refl, refl, refl)
 
 pub returns-in_err-room_fault : goal.returns-in_err-room_fault
 returns-in_err-room_fault c =
     let a = c.args in
     let p = c.requires in
     let l = c.loop-w in
-    let f = l.invariant.0 in
-    let said = c.measure_row in
-    let split = rw c.in-Some.is at c.split_first_chunk.ensures.cases in
-    let front = split.0 ∙ ap (take 8) f.is in
-    let h : f.at < length a.rows.now = more_left a.rows.now l.rest.now f.at f.is _ split.2 in
+    let here = row_here a.rows.now _ l.w-index [] c.as_chunks.ensures.front (omega arith) in
+    let look = l.invariant.0 c.is_event_end.result (c.is_event_end.ensures ∙ ends_here a.rows.now _ (l.w-index * 8) here.0 here.1) in
     let room = c.room_fault in
-    let e : c.from_residual-in_err-room_fault.result ≡ Err (Refused c.in_err-room_fault.field-0.0) = search rules in
-    rw e (room-refused a.first.now a.second.now a.output.now a.pool.now a.rows.now a.writer.names a.writer.written f.at l.tally l.notes l.heads f.here h p.rows_len c.in-Some.w.now front said.result said.new.notes said.new.heads said.ensures c.in_ok-tally.tally c.in_ok-tally.was c.is_event_end.result (c.is_event_end.ensures ∙ ends_left a.rows.now c.in-Some.after.now (f.at + 8) (next_left a.rows.now l.rest.now c.in-Some.after.now f.at f.is split.1)) c.if-is_event_end.true room.result room.ensures c.in_err-room_fault.field-0.0 c.in_err-room_fault.was)
+    let e : c.from_residual.result ≡ Err (Refused c.in_err-room_fault.field-0.0) = search rules in
+    rw e ((look.1 room.result c.if-is_event_end.true room.ensures).0 c.in_err-room_fault.field-0.0 c.in_err-room_fault.was)
 
-pub loop-w-smaller-in-Continue-branch-2 : goal.loop-w-smaller-in-Continue-branch-2
-loop-w-smaller-in-Continue-branch-2 c =
-    let split = rw c.in-Some.is at c.split_first_chunk.ensures.cases in
-    omega (arith, split.2)
-
-pub loop-w-preserved-in-Continue-branch-2 : goal.loop-w-preserved-in-Continue-branch-2
-loop-w-preserved-in-Continue-branch-2 c =
+pub measure_row-requires : goal.measure_row-requires
+measure_row-requires c =
     let a = c.args in
     let p = c.requires in
     let l = c.loop-w in
-    let f = l.invariant.0 in
-    let said = c.measure_row in
-    let split = rw c.in-Some.is at c.split_first_chunk.ensures.cases in
-    let front = split.0 ∙ ap (take 8) f.is in
-    let h : f.at < length a.rows.now = more_left a.rows.now l.rest.now f.at f.is _ split.2 in
-    let room = c.room_fault in
-    let next = row_last a.first.now a.second.now a.output.now a.pool.now a.rows.now a.writer.names a.writer.written f.at l.tally l.notes l.heads f.here h p.rows_len c.in-Some.w.now front said.result said.new.notes said.new.heads said.ensures c.in_ok-tally.tally c.in_ok-tally.was c.is_event_end.result (c.is_event_end.ensures ∙ ends_left a.rows.now c.in-Some.after.now (f.at + 8) (next_left a.rows.now l.rest.now c.in-Some.after.now f.at f.is split.1)) c.if-is_event_end.true room.result room.ensures p.output_len_bound.0 c.in_ok-room_fault.was in
-    (record { at = f.at + 8; is = next_left a.rows.now l.rest.now c.in-Some.after.now f.at f.is split.1; here = next }, said.auto.notes ∙ l.invariant.1, said.auto.heads ∙ l.invariant.2, said.auto.seen ∙ l.invariant.3)
+    let here = row_here a.rows.now _ l.w-index [] c.as_chunks.ensures.front (omega arith) in
+    let look = l.invariant.0 c.is_event_end.result (c.is_event_end.ensures ∙ ends_here a.rows.now _ (l.w-index * 8) here.0 here.1) in
+    let m : Measuring a.first.now a.second.now a.output.now a.pool.now a.rows.now a.writer.names a.writer.written (l.w-index * 8) l.tally l.notes l.heads =
+    elim c.if-is_event_end.branch [
+      | then-is_event_end+in_ok-room_fault u ↦ (look.1 u.room_fault.result u.if-is_event_end.true u.room_fault.ensures).1 u.in_ok-room_fault.was
+      | else-is_event_end u ↦ look.0 u.if-is_event_end.false
+    ] in
+    record { maybe_indexed = p.maybe_indexed; output_len_bound = (p.output_len_bound.0, m.at_small); kept_in_bounds = p.names_in_bounds.0; used_in_bounds = m.used-fits; slots = (slots_kept _ _ l.invariant.2 p.slots.0, slots_kept _ _ l.invariant.3 p.slots_2); kept = kept_here a.first.now a.second.now a.output.now a.pool.now a.rows.now a.writer.names a.writer.written (l.w-index * 8) l.tally l.notes l.heads m p.names_in_bounds.1 }
 
-pub loop-w-smaller : goal.loop-w-smaller
-loop-w-smaller c =
-    let split = rw c.in-Some.is at c.split_first_chunk.ensures.cases in
-    omega (arith, split.2)
+pub returns-in_err-measure_row : goal.returns-in_err-measure_row
+returns-in_err-measure_row c =
+    let a = c.args in
+    let p = c.requires in
+    let l = c.loop-w in
+    let here = row_here a.rows.now _ l.w-index [] c.as_chunks.ensures.front (omega arith) in
+    let look = l.invariant.0 c.is_event_end.result (c.is_event_end.ensures ∙ ends_here a.rows.now _ (l.w-index * 8) here.0 here.1) in
+    let m : Measuring a.first.now a.second.now a.output.now a.pool.now a.rows.now a.writer.names a.writer.written (l.w-index * 8) l.tally l.notes l.heads =
+    elim c.if-is_event_end.branch [
+      | then-is_event_end+in_ok-room_fault u ↦ (look.1 u.room_fault.result u.if-is_event_end.true u.room_fault.ensures).1 u.in_ok-room_fault.was
+      | else-is_event_end u ↦ look.0 u.if-is_event_end.false
+    ] in
+    let said = c.measure_row in
+    let e : c.from_residual-in_err-measure_row.result ≡ Err c.in_err-measure_row.field-0.0 = search rules in
+    rw e (row-stopped a.first.now a.second.now a.output.now a.pool.now a.rows.now a.writer.names a.writer.written (l.w-index * 8) l.tally l.notes l.heads m here.0 p.rows_len _ here.1 (tally_of said.result said.new.tally) said.new.notes said.new.heads said.ensures c.in_err-measure_row.field-0.0 (ap (λ r. tally_of r said.new.tally) c.in_err-measure_row.was))
 
 pub loop-w-preserved : goal.loop-w-preserved
 loop-w-preserved c =
     let a = c.args in
     let p = c.requires in
     let l = c.loop-w in
-    let f = l.invariant.0 in
+    let here = row_here a.rows.now _ l.w-index [] c.as_chunks.ensures.front (omega arith) in
+    let look = l.invariant.0 c.is_event_end.result (c.is_event_end.ensures ∙ ends_here a.rows.now _ (l.w-index * 8) here.0 here.1) in
+    let m : Measuring a.first.now a.second.now a.output.now a.pool.now a.rows.now a.writer.names a.writer.written (l.w-index * 8) l.tally l.notes l.heads =
+    elim c.if-is_event_end.branch [
+      | then-is_event_end+in_ok-room_fault u ↦ (look.1 u.room_fault.result u.if-is_event_end.true u.room_fault.ensures).1 u.in_ok-room_fault.was
+      | else-is_event_end u ↦ look.0 u.if-is_event_end.false
+    ] in
     let said = c.measure_row in
-    let split = rw c.in-Some.is at c.split_first_chunk.ensures.cases in
-    let front = split.0 ∙ ap (take 8) f.is in
-    let h : f.at < length a.rows.now = more_left a.rows.now l.rest.now f.at f.is _ split.2 in
-    let next = row_inside a.first.now a.second.now a.output.now a.pool.now a.rows.now a.writer.names a.writer.written f.at l.tally l.notes l.heads f.here h p.rows_len c.in-Some.w.now front said.result said.new.notes said.new.heads said.ensures c.in_ok-tally.tally c.in_ok-tally.was c.is_event_end.result (c.is_event_end.ensures ∙ ends_left a.rows.now c.in-Some.after.now (f.at + 8) (next_left a.rows.now l.rest.now c.in-Some.after.now f.at f.is split.1)) p.output_len_bound.0 c.if-is_event_end.false in
-    (record { at = f.at + 8; is = next_left a.rows.now l.rest.now c.in-Some.after.now f.at f.is split.1; here = next }, said.auto.notes ∙ l.invariant.1, said.auto.heads ∙ l.invariant.2, said.auto.seen ∙ l.invariant.3)
+    let next = owes a.first.now a.second.now a.output.now a.pool.now a.rows.now a.writer.names a.writer.written (l.w-index * 8) l.tally l.notes l.heads m here.0 p.rows_len _ here.1 (tally_of said.result said.new.tally) said.new.notes said.new.heads said.ensures p.output_len_bound.0 said.new.tally (ap (λ r. tally_of r said.new.tally) c.in_ok-measure_row.was) in
+    (rw (next_row l.w-index) next, said.auto.notes ∙ l.invariant.1, said.auto.heads ∙ l.invariant.2, said.auto.seen ∙ l.invariant.3)
+
+pub returns-in_err-room_fault-2 : goal.returns-in_err-room_fault-2
+returns-in_err-room_fault-2 c =
+    let a = c.args in
+    let p = c.requires in
+    let l = c.loop-w in
+    let room = c.room_fault-2 in
+    let e : c.from_residual-in_err-room_fault-2.result ≡ Err (Refused c.in_err-room_fault-2.field-0.0) = search rules in
+    rw e ((ended_with a.first.now a.second.now a.output.now a.pool.now a.rows.now a.writer.names a.writer.written (l.w-index * 8) l.tally l.notes l.heads l.invariant.0 (omega (arith, p.rows_len)) room.result room.ensures).0 c.in_err-room_fault-2.field-0.0 c.in_err-room_fault-2.was)
 
 pub returns : goal.returns
 returns c =
     let a = c.args in
     let p = c.requires in
     let l = c.loop-w in
-    let f = l.invariant.0 in
-    let short = rw c.in_default.is at c.split_first_chunk.ensures.cases in
-    ended a.first.now a.second.now a.output.now a.pool.now a.rows.now a.writer.names a.writer.written f.at l.tally l.notes l.heads f.here (none_left a.rows.now l.rest.now f.at f.is f.here.aligned p.rows_len short)
+    let room = c.room_fault-2 in
+    (ended_with a.first.now a.second.now a.output.now a.pool.now a.rows.now a.writer.names a.writer.written (l.w-index * 8) l.tally l.notes l.heads l.invariant.0 (omega (arith, p.rows_len)) room.result room.ensures).1 c.in_ok-room_fault-2.was

@@ -1,5 +1,5 @@
-use Rattle.std.proofs.Common.{arith, ◌<◌, ◌+◌, length, take, refl, ap, ◌∙◌}
-use Rattle.writer.proofs.Turns.{more_left, next_left, none_left}
+use Rattle.std.proofs.Common.{arith, []}
+use Rattle.writer.proofs.Turns.{row_here, next_row}
 use Rattle.writer.proofs.Writing.{begins, row-asks, keep-asks, turns, ended}
 use Rattle.writer.proofs.put.write_rows.Goals as goal
 
@@ -7,7 +7,7 @@ pub loop-w-init : goal.loop-w-init
 loop-w-init c =
     let a = c.args in
     let p = c.requires in
-    record { at = 0; is = refl; here = begins a.first.now a.second.now a.output.now a.pool.now a.rows.now a.writer.names a.writer.written a.notes.now p.rows_value p.ready.settled }
+    begins a.first.now a.second.now a.output.now a.pool.now a.rows.now a.writer.names a.writer.written a.notes.now p.rows_value p.ready.settled
 
 pub quick_known_name-known-requires : goal.quick_known_name-known-requires
 quick_known_name-known-requires c =
@@ -19,12 +19,9 @@ write_row-next-requires c =
     let a = c.args in
     let p = c.requires in
     let l = c.loop-w in
-    let f = l.invariant in
-    let split = rw c.in-Some.is at c.split_first_chunk.ensures.cases in
-    let front = split.0 ∙ ap (take 8) f.is in
-    let h : f.at < length a.rows.now = more_left a.rows.now l.rest.now f.at f.is _ split.2 in
+    let here = row_here a.rows.now _ l.w-index [] c.as_chunks.ensures.front (omega arith) in
     let known = c.quick_known_name-known in
-    let asked = row-asks a.first.now a.second.now a.output.now a.pool.now a.rows.now a.writer.names a.writer.written a.notes.now f.at l.at l.names l.output l.pool a.heads.now f.here p.ready h p.rows_len c.in-Some.w.now front known.result known.ensures in
+    let asked = row-asks a.first.now a.second.now a.output.now a.pool.now a.rows.now a.writer.names a.writer.written a.notes.now _ l.at l.names l.output l.pool a.heads.now l.invariant p.ready here.0 p.rows_len _ here.1 known.result known.ensures in
     record { w_bound = asked.0; w_in_bounds = asked.1 }
 
 pub keep_name-names-requires : goal.keep_name-names-requires
@@ -32,45 +29,31 @@ keep_name-names-requires c =
     let a = c.args in
     let p = c.requires in
     let l = c.loop-w in
-    let f = l.invariant in
-    let split = rw c.in-Some.is at c.split_first_chunk.ensures.cases in
-    let front = split.0 ∙ ap (take 8) f.is in
-    let h : f.at < length a.rows.now = more_left a.rows.now l.rest.now f.at f.is _ split.2 in
+    let here = row_here a.rows.now _ l.w-index [] c.as_chunks.ensures.front (omega arith) in
     let known = c.quick_known_name-known in
-    let asked = keep-asks a.first.now a.second.now a.output.now a.pool.now a.rows.now a.writer.names a.writer.written a.notes.now f.at l.at l.names l.output l.pool a.heads.now f.here p.ready h p.rows_len c.in-Some.w.now front known.result known.ensures p.output_len_bound in
+    let asked = keep-asks a.first.now a.second.now a.output.now a.pool.now a.rows.now a.writer.names a.writer.written a.notes.now _ l.at l.names l.output l.pool a.heads.now l.invariant p.ready here.0 p.rows_len _ here.1 known.result known.ensures p.output_len_bound in
     record { at_le_max_store = asked.0; at_in_bounds = asked.1 }
-
-pub loop-w-smaller : goal.loop-w-smaller
-loop-w-smaller c =
-    let split = rw c.in-Some.is at c.split_first_chunk.ensures.cases in
-    omega (arith, split.2)
 
 pub loop-w-preserved : goal.loop-w-preserved
 loop-w-preserved c =
     let a = c.args in
     let p = c.requires in
     let l = c.loop-w in
-    let f = l.invariant in
-    let split = rw c.in-Some.is at c.split_first_chunk.ensures.cases in
-    let front = split.0 ∙ ap (take 8) f.is in
-    let h : f.at < length a.rows.now = more_left a.rows.now l.rest.now f.at f.is _ split.2 in
+    let here = row_here a.rows.now _ l.w-index [] c.as_chunks.ensures.front (omega arith) in
     let known = c.quick_known_name-known in
     let row = c.write_row-next in
     let name = c.keep_name-names in
-    let next = turns a.first.now a.second.now a.output.now a.pool.now a.rows.now a.writer.names a.writer.written a.notes.now f.at l.at l.names l.output l.pool a.heads.now f.here p.ready h p.rows_len c.in-Some.w.now front known.result known.ensures _ _ _ _ row.ensures.bytes row.ensures.place name.ensures.pairs name.ensures.count in
-    record { at = f.at + 8; is = next_left a.rows.now l.rest.now c.in-Some.after.now f.at f.is split.1; here = next }
+    rw (next_row l.w-index) (turns a.first.now a.second.now a.output.now a.pool.now a.rows.now a.writer.names a.writer.written a.notes.now _ l.at l.names l.output l.pool a.heads.now l.invariant p.ready here.0 p.rows_len _ here.1 known.result known.ensures _ _ _ _ row.ensures.bytes row.ensures.place name.ensures.pairs name.ensures.count)
 
 pub shape_of-output : goal.shape_of-output
-shape_of-output c = c.loop-w.invariant.here.output-length
+shape_of-output c = c.loop-w.invariant.output-length
 
 pub shape_of-pool : goal.shape_of-pool
-shape_of-pool c = c.loop-w.invariant.here.table-length
+shape_of-pool c = c.loop-w.invariant.table-length
 
 pub returns : goal.returns
 returns c =
     let a = c.args in
     let p = c.requires in
     let l = c.loop-w in
-    let f = l.invariant in
-    let short = rw c.in_default.is at c.split_first_chunk.ensures.cases in
-    ended a.first.now a.second.now a.output.now a.pool.now a.rows.now a.writer.names a.writer.written a.notes.now f.at l.at l.names l.output l.pool a.heads.now f.here p.ready (none_left a.rows.now l.rest.now f.at f.is f.here.aligned p.rows_len short)
+    ended a.first.now a.second.now a.output.now a.pool.now a.rows.now a.writer.names a.writer.written a.notes.now _ l.at l.names l.output l.pool a.heads.now l.invariant p.ready (omega (arith, p.rows_len))
