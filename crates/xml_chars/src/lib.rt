@@ -88,7 +88,7 @@ pub fn fault(s: &[u8]) -> Result<(), Refusal>
     ensures fault { fault_of result ≡ string_fault s.now }
     ensures refusal { IfErr result (λ r. (r ≡ InvalidUtf8) ⊎ (r ≡ IllegalChar)) }
 {
-    if octets::all_pass::<Printable>(s) {
+    if octets::all_pass_test::<Printable>(s) {
         return Ok(());
     }
     if !utf8::is_utf8(&s[0..]) {

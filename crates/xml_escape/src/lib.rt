@@ -123,7 +123,7 @@ impl octets::Test for Plain {
 pub fn escaped_end(s: &[u8], limit: usize, at: usize) -> usize
     ensures { result ≡ after limit at (length (escape s.now)) }
 {
-    if octets::all_pass::<Plain>(&s[0..]) {
+    if octets::all_pass_test::<Plain>(&s[0..]) {
         return text::after(limit, at, s.len());
     }
     mixed_end(&s[0..], limit, at)
@@ -133,7 +133,7 @@ pub fn escaped_end(s: &[u8], limit: usize, at: usize) -> usize
 pub fn put_escaped(s: &[u8], out: &mut [u8], at: usize) -> usize
     ensures { Put out.old at (escape s.now) out.new result }
 {
-    if octets::all_pass::<Plain>(&s[0..]) {
+    if octets::all_pass_test::<Plain>(&s[0..]) {
         return text::put(&s[0..], out, at);
     }
     put_mixed(&s[0..], out, at)

@@ -1,17 +1,17 @@
 -- `octets::pass_by` meets its contract: a block more, and the last tells.
-use Rattle.std.proofs.Common.{true, false, ◌≡◌, arith}
+use Rattle.std.proofs.Common.{true, false, arith}
 use Rattle.octets.proofs.Blocks.{joined, within, last}
 use Rattle.octets.proofs.pass_by.Goals as goal
 
 pub returns-then-not-pass : goal.returns-then-not-pass
-returns-then-not-pass g c = within (λ x. g.T.Test.passed x ≡ false) c.args.s.now c.loop-k.k _ c.if-not-pass.ensures
+returns-then-not-pass g c = within (λ x. goal.F-post g c.args.test x false) c.args.s.now c.loop-k.k _ c.if-not-pass.ensures
 
 pub loop-k-preserved : goal.loop-k-preserved
 loop-k-preserved g c =
     let l = c.loop-k in
-    (omega arith, joined (λ x. g.T.Test.passed x ≡ true) c.args.s.now 0 l.k l.k _ (omega arith) (omega arith) l.invariant.1 c.if-not-pass.ensures)
+    (omega arith, joined (λ x. goal.F-post g c.args.test x true) c.args.s.now 0 l.k l.k _ (omega arith) (omega arith) l.invariant.1 c.if-not-pass.ensures)
 
 pub returns : goal.returns
 returns g c =
     let l = c.loop-k in
-    last (λ x. g.T.Test.passed x ≡ true) (λ x. g.T.Test.passed x ≡ false) c.args.s.now l.k _ _ (omega arith) l.invariant.1 c.pass-2.ensures
+    last (λ x. goal.F-post g c.args.test x true) (λ x. goal.F-post g c.args.test x false) c.args.s.now l.k _ _ (omega arith) l.invariant.1 c.pass-2.ensures

@@ -5,8 +5,8 @@ use borrow.Author.Tests.{not-true, not-false}
 use Rattle.xml_chars.proofs.Plain.{whole, not-utf8, by-places, all_printable}
 use Rattle.xml_chars.proofs.fault.Goals as goal
 
-pub returns-then-all_pass-clause-fault : goal.returns-then-all_pass-clause-fault
-returns-then-all_pass-clause-fault c = sym (all_printable c.args.s.now c.if-all_pass.ensures)
+pub returns-then-all_pass_test-clause-fault : goal.returns-then-all_pass_test-clause-fault
+returns-then-all_pass_test-clause-fault c = sym (all_printable c.args.s.now c.if-all_pass_test.ensures)
 
 pub returns-then-not-is_utf8-clause-fault : goal.returns-then-not-is_utf8-clause-fault
 returns-then-not-is_utf8-clause-fault c =

@@ -2,10 +2,10 @@
 use Rattle.xml_escape.proofs.Turns.{whole, plain-all}
 use Rattle.xml_escape.proofs.put_escaped.Goals as goal
 
-pub returns-then-all_pass : goal.returns-then-all_pass
-returns-then-all_pass c =
+pub returns-then-all_pass_test : goal.returns-then-all_pass_test
+returns-then-all_pass_test c =
     let s = c.args.s.now in
-    let b = rw (whole s) at c.if-all_pass.ensures in
+    let b = rw (whole s) at c.if-all_pass_test.ensures in
     rw (plain-all s b) (rw (whole s) at c.put.ensures)
 
 pub returns : goal.returns
